@@ -1,0 +1,71 @@
+-- The bytes of a number, group by group, and how many they are. Assumes nothing.
+use Prim.Native.Nat.{ℕ, zero, suc, _+_, _*_, _^_, _/_, _%_, _≤_, _<_}
+use native.Mathlib.Nat.{pow-suc}
+use native.Mathlib.Decide.{decLt}
+use native.Mathlib.Omega.{arith}
+use mathlib.Core.Path.{_≡_, refl, ap}
+use mathlib.Core.List.{List, [], _∷_}
+use lib.ListN.{length}
+use borrow.Author.Tests.{lt-ltb, le-ltb}
+use Rattle.numbers.specs.Tests.{pick}
+use Rattle.numbers.specs.SevenBit.{groups, bytesOf}
+
+-- any count of groups that is enough gives the same bytes
+groups-enough : (m n x : ℕ) → x ≤ m → x ≤ n → groups m x ≡ groups n x
+unfolding groups pick
+groups-enough zero zero x h k = refl
+groups-enough zero (suc n) x h k = rw (lt-ltb x 128 (omega arith))
+groups-enough (suc m) zero x h k = rw (lt-ltb x 128 (omega arith))
+groups-enough (suc m) (suc n) x h k =
+    elim (decLt x 128) [
+      | yes l ↦ rw (lt-ltb x 128 l)
+      | no l ↦ rw (le-ltb x 128 (omega arith), groups-enough m n (x / 128) (omega arith) (omega arith))
+    ]
+
+-- a number of one group
+pub bytes-last : (x : ℕ) → x < 128 → bytesOf x ≡ x ∷ []
+unfolding bytesOf groups pick
+bytes-last zero h = refl
+bytes-last (suc x) h = rw (lt-ltb (suc x) 128 h)
+
+-- a number of more groups: the low group comes first
+pub bytes-more : (x : ℕ) → 128 ≤ x → bytesOf x ≡ (x % 128 + 128) ∷ bytesOf (x / 128)
+unfolding bytesOf groups pick
+bytes-more zero h = absurd (omega arith)
+bytes-more (suc x) h =
+    rw (le-ltb (suc x) 128 h) (ap (λ l. (suc x % 128 + 128) ∷ l) (groups-enough x (suc x / 128) (suc x / 128) (omega arith) (omega arith)))
+
+pub length-last : (x : ℕ) → x < 128 → length (bytesOf x) ≡ 1
+length-last x h = ap length (bytes-last x h)
+
+pub length-more : (x : ℕ) → 128 ≤ x → length (bytesOf x) ≡ suc (length (bytesOf (x / 128)))
+length-more x h = ap length (bytes-more x h)
+
+pub length-positive : (x : ℕ) → 1 ≤ length (bytesOf x)
+length-positive x =
+    elim (decLt x 128) [
+      | yes l ↦ omega (arith, length-last x l)
+      | no l ↦ omega (arith, length-more x (omega arith))
+    ]
+
+-- k groups hold every number below 128 ^ k
+pub length-bound : (k x : ℕ) → x < 128 ^ suc k → length (bytesOf x) ≤ suc k
+length-bound zero x h = omega (arith, length-last x h)
+length-bound (suc k) x h =
+    elim (decLt x 128) [
+      | yes l ↦ omega (arith, length-last x l)
+      | no l ↦ omega (arith, length-more x (omega arith), length-bound k (x / 128) (omega (arith, pow-suc 128 (suc k))))
+    ]
+
+-- the bounds that the layers above count with
+pub at-most-10 : (x : ℕ) → x < 2 ^ 64 → length (bytesOf x) ≤ 10
+at-most-10 x h = length-bound 9 x (omega arith)
+
+pub at-most-5 : (x : ℕ) → x < 2 ^ 32 → length (bytesOf x) ≤ 5
+at-most-5 x h = length-bound 4 x (omega arith)
+
+pub at-most-4 : (x : ℕ) → x < 2 ^ 28 → length (bytesOf x) ≤ 4
+at-most-4 x h = length-bound 3 x h
+
+pub at-most-3 : (x : ℕ) → x < 2 ^ 21 → length (bytesOf x) ≤ 3
+at-most-3 x h = length-bound 2 x h

@@ -1,0 +1,24 @@
+// Numbers in the seven-bit form: the lowest layer.
+pub mod count;
+pub mod read;
+pub mod write;
+
+// What a byte is as a group of a number: one with more groups behind it, the last one, or none that is allowed there.
+pub enum Group {
+    More,
+    Last,
+    Bad,
+}
+
+// What stands at an offset of a byte slice: a number with the offset behind it, or a refusal.
+pub enum NumberRead {
+    Value { value: u64, end: usize },
+    MissingByte,
+    BadNumber,
+}
+
+// What writing a number answers: the offset behind it, or that it doesn't fit.
+pub enum NumberWrite {
+    End(usize),
+    NoRoom,
+}

@@ -1,0 +1,43 @@
+// Writing a number at an offset.
+use crate::NumberWrite;
+use crate::count;
+ghost use mathlib.Core.Path.{_≡_};
+ghost use Prim.Native.Nat.{_+_, _≤_};
+ghost use lib.ListN.{length};
+ghost use lib.Dec.{leb};
+ghost use Rattle.numbers.specs.SevenBit.{bytesOf, overwrite, Written, outcomeOfWrite};
+
+// Whether `count` bytes fit into `len` from the offset on.
+fn fits(len: usize, at: usize, count: usize) -> bool
+    ensures { λ r. ⌜ r ≡ leb (at + count) len ⌝ }
+{
+    if at > len {
+        return false;
+    }
+    count <= len - at
+}
+
+// Writes a number for which there is room, and returns the offset behind it.
+fn put_number(bytes: &mut [u8], at: usize, x: u64) -> usize
+    requires { ⌜ at + length (bytesOf x) ≤ length (now bytes) ⌝ }
+    ensures { λ r. ⌜ (r ≡ at + length (bytesOf x)) × (now (bytes .exit) ≡ overwrite (now (bytes .entry)) at (bytesOf x)) ⌝ }
+{
+    let mut i = at;
+    let mut rest = x;
+    while rest >= 128 {
+        bytes[i] = (rest % 128 + 128) as u8;
+        rest = rest / 128;
+        i += 1;
+    }
+    bytes[i] = rest as u8;
+    i + 1
+}
+
+pub fn write_number(bytes: &mut [u8], at: usize, x: u64) -> NumberWrite
+    ensures { λ r. ⌜ Written (bytesOf x) at (now (bytes .entry)) (outcomeOfWrite r) (now (bytes .exit)) ⌝ }
+{
+    if fits(bytes.len(), at, count::byte_count(x)) {
+        return NumberWrite::End(put_number(bytes, at, x));
+    }
+    NumberWrite::NoRoom
+}

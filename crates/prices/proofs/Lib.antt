@@ -1,0 +1,3 @@
+-- Laws that the layers above cite.
+pub mod PriceLaws
+pub mod RestrictionLaws

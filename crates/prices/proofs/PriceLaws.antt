@@ -1,0 +1,117 @@
+-- Laws of prices, bids and the permitted price. Assumes nothing.
+use Prim.Native.Nat.{ℕ, suc, _+_, _%_, _≤_, _<_, max}
+use native.Mathlib.Omega.{arith}
+use native.Mathlib.Decide.{decLe, decLt}
+use mathlib.Core.Path.{_≡_}
+use mathlib.Core.Bool.{_&&_, _||_}
+use mathlib.Core.Logic.{_⊎_, inl, inr}
+use lib.Dec.{T, leb, ltb, eqb, leb→le, le→leb, eqb→eq}
+use Rattle.prices.specs.Prices.{highest, dollarBorder, step, highestBid, legal, isBid, permitted}
+use Rattle.numbers.proofs.TestLaws.{by-test, and-T, T-and, or-T, T-inl, T-inr, eq→T, tests}
+
+-- what the test of a legal price says
+
+pub record Legal (p : ℕ) : Type 0 where
+  pub low : 1 ≤ p
+  pub high : p ≤ highest
+  pub onStep : (p < dollarBorder) ⊎ (p % step ≡ 0)
+
+pub legal-out : (p : ℕ) → T (legal p) → Legal p
+unfolding legal
+legal-out p t =
+    let a = and-T (leb 1 p) (leb p highest && (ltb p dollarBorder || eqb (p % step) 0)) t in
+    let b = and-T (leb p highest) (ltb p dollarBorder || eqb (p % step) 0) (a .1) in
+    record { low = leb→le 1 p (a .0); high = leb→le p highest (b .0); onStep = go (or-T (ltb p dollarBorder) (eqb (p % step) 0) (b .1)) }
+  where
+    go : T (ltb p dollarBorder) ⊎ T (eqb (p % step) 0) → (p < dollarBorder) ⊎ (p % step ≡ 0)
+    go (inl x) = inl (leb→le (suc p) dollarBorder x)
+    go (inr x) = inr (eqb→eq (p % step) 0 x)
+
+pub legal-in : (p : ℕ) → Legal p → T (legal p)
+unfolding legal
+legal-in p h = T-and (leb 1 p) _ (le→leb 1 p (h .low)) (T-and (leb p highest) _ (le→leb p highest (h .high)) (go (h .onStep)))
+  where
+    go : (p < dollarBorder) ⊎ (p % step ≡ 0) → T (ltb p dollarBorder || eqb (p % step) 0)
+    go (inl x) = T-inl (ltb p dollarBorder) (eqb (p % step) 0) (le→leb (suc p) dollarBorder x)
+    go (inr x) = T-inr (ltb p dollarBorder) (eqb (p % step) 0) (eq→T x)
+
+pub legal-positive : (p : ℕ) → T (legal p) → 1 ≤ p
+legal-positive p t = legal-out p t .low
+
+pub max-legal : (p q : ℕ) → T (legal p) → T (legal q) → T (legal (max p q))
+max-legal p q h k = go (decLe p q)
+  where
+    go : Dec (p ≤ q) → T (legal (max p q))
+    go (yes l) = let e : max p q ≡ q = omega arith in rw e k
+    go (no l) = let e : max p q ≡ p = omega arith in rw e h
+
+-- bids
+
+-- what the test of a bid says: no bid, or a legal price up to the highest bid
+pub bid-out : (b : ℕ) → T (isBid b) → (b ≡ 0) ⊎ (Legal b × (b ≤ highestBid))
+unfolding isBid
+bid-out b t = go (or-T (eqb b 0) (legal b && leb b highestBid) t)
+  where
+    go : T (eqb b 0) ⊎ T (legal b && leb b highestBid) → (b ≡ 0) ⊎ (Legal b × (b ≤ highestBid))
+    go (inl x) = inl (eqb→eq b 0 x)
+    go (inr x) = let r = and-T (legal b) (leb b highestBid) x in inr (legal-out b (r .0), leb→le b highestBid (r .1))
+
+pub bid-highest : (b : ℕ) → T (isBid b) → b ≤ highestBid
+bid-highest b t = go (bid-out b t)
+  where
+    go : (b ≡ 0) ⊎ (Legal b × (b ≤ highestBid)) → b ≤ highestBid
+    go (inl x) = omega arith
+    go (inr x) = x .1
+
+-- the permitted price
+
+-- what the permitted price of b is, by where b stands
+pub permitted-by : (P : ℕ → Type 0) (b : ℕ) → (b ≡ 0 → P 1) → (1 ≤ b → b < dollarBorder → P (b + 1)) → (dollarBorder ≤ b → P (b + step)) → P (permitted b)
+unfolding permitted
+permitted-by P b f g h =
+    by-test P _ (λ z. f (eqb→eq b 0 z)) (λ z. by-test P _ (λ y. g (omega tests) (omega tests)) (λ y. h (omega tests)))
+
+pub permitted-above : (b : ℕ) → b < permitted b
+permitted-above b = permitted-by (λ (x : ℕ). b < x) b (λ z. omega arith) (λ l h. omega arith) (λ h. omega arith)
+
+pub permitted-legal : (b : ℕ) → T (isBid b) → T (legal (permitted b))
+permitted-legal b t =
+    permitted-by
+    (λ (x : ℕ). T (legal x))
+    b
+    (λ z. legal-in 1 (record { low = omega arith; high = omega arith; onStep = inl (omega arith) }))
+    (λ l h. legal-in (b + 1) (record { low = omega arith; high = omega arith; onStep = small h (decLt (b + 1) dollarBorder) }))
+    (λ h. legal-in (b + step) (large h (bid-out b t)))
+  where
+    small : b < dollarBorder → Dec (b + 1 < dollarBorder) → (b + 1 < dollarBorder) ⊎ ((b + 1) % step ≡ 0)
+    small h (yes x) = inl x
+    small h (no x) = inr (omega arith)
+
+    onStep : dollarBorder ≤ b → (b < dollarBorder) ⊎ (b % step ≡ 0) → (b + step) % step ≡ 0
+    onStep h (inl x) = absurd (omega arith)
+    onStep h (inr x) = omega arith
+
+    large : dollarBorder ≤ b → (b ≡ 0) ⊎ (Legal b × (b ≤ highestBid)) → Legal (b + step)
+    large h (inl x) = absurd (omega arith)
+    large h (inr x) = record { low = omega arith; high = omega (arith, x .1); onStep = inr (onStep h (x .0 .onStep)) }
+
+-- no legal price lies strictly between a bid and its permitted price
+pub permitted-next : (b p : ℕ) → T (isBid b) → T (legal p) → b < p → permitted b ≤ p
+permitted-next b p t l h =
+    permitted-by (λ (x : ℕ). x ≤ p) b (λ z. omega arith) (λ k m. omega arith) (λ m. far m (bid-out b t) (legal-out p l .onStep))
+  where
+    far : dollarBorder ≤ b → (b ≡ 0) ⊎ (Legal b × (b ≤ highestBid)) → (p < dollarBorder) ⊎ (p % step ≡ 0) → b + step ≤ p
+    far m (inl x) y = absurd (omega arith)
+    far m (inr x) (inl y) = absurd (omega arith)
+    far m (inr x) (inr y) = further (x .0 .onStep)
+      where
+        further : (b < dollarBorder) ⊎ (b % step ≡ 0) → b + step ≤ p
+        further (inl z) = absurd (omega arith)
+        further (inr z) = omega arith
+
+pub permitted-rises : (b c : ℕ) → T (isBid b) → T (isBid c) → b < c → permitted b < permitted c
+permitted-rises b c s t h = go (bid-out c t)
+  where
+    go : (c ≡ 0) ⊎ (Legal c × (c ≤ highestBid)) → permitted b < permitted c
+    go (inl x) = absurd (omega arith)
+    go (inr x) = omega (arith, permitted-next b c s (legal-in c (x .0)) h, permitted-above c)

@@ -1,0 +1,22 @@
+-- The short sale restriction (17 CFR 242.201(b)): document 01, "Restriction". Assumes nothing.
+-- "Phase 0 is off, 1 on since today, 2 on since yesterday"
+use Prim.Native.Nat.{ℕ, _*_}
+use mathlib.Core.Bool.{Bool, _&&_, _||_}
+use lib.Dec.{leb, eqb}
+use Rattle.numbers.specs.Tests.{pick}
+
+-- the price is 10% or more below the close: "10 × p ≤ 9 × close"
+unfoldable pub triggers : ℕ → ℕ → Bool
+triggers close p = leb (10 * p) (9 * close)
+
+-- "In phase 0 a tape price p with 10 × p ≤ 9 × close makes phase 1. In phases 1 and 2 a tape price leaves the phase alone"
+unfoldable pub phaseAfterTape : ℕ → ℕ → ℕ → ℕ
+phaseAfterTape close phase p = pick (eqb phase 0 && triggers close p) 1 phase
+
+-- "A day end turns 1 into 2, and 2 or 0 into 0"
+unfoldable pub phaseAfterDayEnd : ℕ → ℕ
+phaseAfterDayEnd phase = pick (eqb phase 1) 2 0
+
+-- "The restriction is on in phases 1 and 2"
+unfoldable pub restrictionOn : ℕ → Bool
+restrictionOn phase = eqb phase 1 || eqb phase 2

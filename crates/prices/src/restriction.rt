@@ -1,0 +1,39 @@
+// The phases of the short sale restriction (17 CFR 242.201(b)).
+ghost use mathlib.Core.Path.{_≡_};
+ghost use Rattle.prices.specs.Restriction.{phaseAfterTape, phaseAfterDayEnd, restrictionOn};
+
+// Whether a tape price is 10% or more below the close. The products take 64 bits.
+pub fn triggers(close: u32, price: u32) -> bool
+    ensures { λ r. ⌜ r ≡ Rattle.prices.specs.Restriction.triggers close price ⌝ }
+{
+    10 * (price as u64) <= 9 * (close as u64)
+}
+
+pub fn phase_after_tape(close: u32, phase: u32, price: u32) -> u32
+    ensures { λ r. ⌜ r ≡ phaseAfterTape close phase price ⌝ }
+{
+    if phase == 0 {
+        if triggers(close, price) {
+            return 1;
+        }
+    }
+    phase
+}
+
+pub fn phase_after_day_end(phase: u32) -> u32
+    ensures { λ r. ⌜ r ≡ phaseAfterDayEnd phase ⌝ }
+{
+    if phase == 1 {
+        return 2;
+    }
+    0
+}
+
+pub fn restriction_on(phase: u32) -> bool
+    ensures { λ r. ⌜ r ≡ restrictionOn phase ⌝ }
+{
+    if phase == 1 {
+        return true;
+    }
+    phase == 2
+}
