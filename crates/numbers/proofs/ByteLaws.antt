@@ -5,10 +5,10 @@ use native.Mathlib.Decide.{decLt}
 use native.Mathlib.Omega.{arith}
 use mathlib.Core.Path.{_≡_, refl, ap}
 use mathlib.Core.List.{List, [], _∷_}
-use lib.ListN.{length}
+use lib.ListN.{length, length-append}
 use borrow.Author.Tests.{lt-ltb, le-ltb}
-use Rattle.numbers.specs.Tests.{pick}
-use Rattle.numbers.specs.SevenBit.{groups, bytesOf}
+use Rattle.numbers.specs.Tests.{pick, All}
+use Rattle.numbers.specs.SevenBit.{groups, bytesOf, bytesOfAll}
 
 -- any count of groups that is enough gives the same bytes
 groups-enough : (m n x : ℕ) → x ≤ m → x ≤ n → groups m x ≡ groups n x
@@ -69,3 +69,15 @@ at-most-4 x h = length-bound 3 x h
 
 pub at-most-3 : (x : ℕ) → x < 2 ^ 21 → length (bytesOf x) ≤ 3
 at-most-3 x h = length-bound 2 x h
+
+-- the bytes of several numbers
+
+pub numbers-size : (xs : List ℕ) → All (λ (x : ℕ). x < 2 ^ 32) xs → length (bytesOfAll xs) ≤ 5 * length xs
+unfolding bytesOfAll
+numbers-size [] h = omega arith
+numbers-size (x ∷ xs) h = simp length-append (omega (arith, at-most-5 x (h .0), numbers-size xs (h .1)))
+
+-- a kind below 128 and 32-bit fields
+pub kind-size : (k : ℕ) (xs : List ℕ) → k < 128 → All (λ (x : ℕ). x < 2 ^ 32) xs → length (bytesOfAll (k ∷ xs)) ≤ 1 + 5 * length xs
+unfolding bytesOfAll
+kind-size k xs l h = simp length-append (omega (arith, length-last k l, numbers-size xs h))

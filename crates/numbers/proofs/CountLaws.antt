@@ -1,14 +1,13 @@
 -- Bit lengths, and the count of a number's bytes by its bit length. Assumes nothing.
-use Prim.Native.Nat.{ℕ, zero, suc, _+_, _-_, _*_, _^_, _/_, _%_, _≤_, _<_}
+use Prim.Native.Nat.{ℕ, zero, suc, _+_, _-_, _^_, _/_, _≤_, _<_}
 use native.Mathlib.Decide.{decLt, decLe}
 use native.Mathlib.Omega.{arith}
-use mathlib.Core.Path.{_≡_, refl, sym, ap, _∙_, subst}
-use mathlib.Core.Bool.{Bool, true, false}
-use lib.Dec.{T, eqb}
+use mathlib.Core.Path.{_≡_, refl, sym, ap, _∙_}
+use lib.Dec.{eqb}
 use lib.ListN.{length}
 use lib.Pow.{pow-pos, pow-mono, pow-add}
-use lib.Count.{leadingZeros, leading-le, leading-top, leading-of-zero}
-use borrow.Author.Tests.{eq-eqb, ne-eqb}
+use lib.Count.{leadingZeros, leading-top, leading-of-zero}
+use borrow.Author.Tests.{ne-eqb}
 use Rattle.numbers.specs.Tests.{pick}
 use Rattle.numbers.specs.SevenBit.{bytesOf, byteCount, BitLength, countOfBits}
 use Rattle.numbers.proofs.TestLaws.{by-test}

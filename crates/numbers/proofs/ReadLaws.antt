@@ -7,17 +7,18 @@ use native.Mathlib.Omega.{arith}
 use mathlib.Core.Path.{_≡_, refl, sym, ap, ap₂, _∙_, subst}
 use mathlib.Core.Bool.{Bool, true, false, not, _&&_}
 use mathlib.Core.Logic.{_⊎_, inl, inr}
-use mathlib.Core.List.{List, [], _∷_, _++_, append-assoc}
+use mathlib.Core.List.{List, [], _∷_, _++_}
 use lib.Dec.{T, leb, ltb, eqb, leb→le, nleb→lt}
-use lib.ListN.{length, getD, take, drop, length-append, length-drop, take-append-drop, drop-of-length-le}
-use lib.Seq.{drop-append-seam, drop-append-add, drop-drop, drop-cons}
-use borrow.Author.Tests.{lt-ltb, le-ltb, le-leb, lt-leb, eq-eqb, ne-eqb}
+use lib.ListN.{length, getD, drop, length-append, length-drop, drop-of-length-le}
+use lib.Seq.{drop-append-seam, drop-drop, drop-cons}
+use borrow.Author.Tests.{lt-ltb, le-ltb, le-leb, lt-leb, ne-eqb}
 use Rattle.numbers.specs.Tests.{pick, All}
 use Rattle.numbers.specs.Answers.{Outcome, gives, refuses, Read}
 use Rattle.numbers.specs.declared.Group.{Group}
 use Rattle.numbers.specs.declared.Group.the-variants.{More, Last, Bad}
-use Rattle.numbers.specs.SevenBit.{bytesOf, judge, onGroup, byGroup, groupsAt, numberAt, overwrite}
+use Rattle.numbers.specs.SevenBit.{bytesOf, judge, onGroup, byGroup, groupsAt, numberAt, Stands}
 use Rattle.numbers.proofs.TestLaws.{by-test, nand-T, neqb, tests}
+use Rattle.numbers.proofs.PlaceLaws.{stands-first}
 use Rattle.numbers.proofs.ByteLaws.{bytes-last, bytes-more, length-last, length-more, length-positive}
 
 -- what a byte is as a group
@@ -73,9 +74,11 @@ read-groups (suc r) k i x behind e h p =
       | no l ↦ read-more k i x behind (omega arith) (omega arith) (read-groups r (suc k) (suc i) (x / 128) behind (omega arith) (omega (arith, pow-suc 128 r)) (λ q. omega arith))
     ]
 
-pub read-back : (front behind : List ℕ) (x : ℕ) → x < 2 ^ 64 → numberAt (front ++ (bytesOf x ++ behind)) (length front) ≡ number x (length front + length (bytesOf x))
+-- a number whose bytes stand at an offset is read there, whatever stands behind it
+pub read-there : {bytes : List ℕ} {at e : ℕ} (x : ℕ) → x < 2 ^ 64 → Stands bytes at (bytesOf x) e → numberAt bytes at ≡ number x e
 unfolding numberAt
-read-back front behind x h = rw (drop-append-seam front (bytesOf x ++ behind)) (read-groups 9 0 (length front) x behind refl h (λ p. absurd (omega arith)))
+read-there {bytes} {at} {e} x h s =
+    ap (groupsAt 0 at) (s .there) ∙ read-groups 9 0 at x (drop e bytes) refl h (λ p. absurd (omega arith)) ∙ ap (number x) (sym (s .ends))
 
 abbrev valueOf : Outcome (Read ℕ) → ℕ
 valueOf (gives r) = r.value
@@ -83,7 +86,8 @@ valueOf (refuses n) = n
 
 -- so the bytes of one number are never the front of another's
 pub not-a-front : (x y : ℕ) (r s : List ℕ) → x < 2 ^ 64 → y < 2 ^ 64 → bytesOf x ++ r ≡ bytesOf y ++ s → x ≡ y
-not-a-front x y r s h k e = ap valueOf (sym (read-back [] r x h) ∙ ap (λ l. numberAt l 0) e ∙ read-back [] s y k)
+not-a-front x y r s h k e =
+    ap valueOf (sym (read-there x h (stands-first (bytesOf x) r)) ∙ ap (λ l. numberAt l 0) e ∙ read-there y k (stands-first (bytesOf y) s))
 
 -- What reads as a number is exactly its bytes
 
@@ -175,22 +179,14 @@ all-drop zero bs h = h
 all-drop (suc n) [] h = h
 all-drop (suc n) (b ∷ bs) h = all-drop n bs (h .1)
 
--- where a number was read its bytes stand, and nothing else: writing them there again changes nothing
-pub record Stands (bytes : List ℕ) (at : ℕ) (r : Read ℕ) : Type 0 where
+-- where a number is read its bytes stand, and nothing else
+pub record NumberStands (bytes : List ℕ) (at : ℕ) (r : Read ℕ) : Type 0 where
   pub fits : r.value < 2 ^ 64
-  pub end : r.end ≡ at + length (bytesOf (r .value))
-  pub inside : r.end ≤ length bytes
-  pub same : overwrite bytes at (bytesOf (r .value)) ≡ bytes
+  pub stands : Stands bytes at (bytesOf (r .value)) (r .end)
 
-pub read-unique : (bytes : List ℕ) (at : ℕ) → All IsByte bytes → (r : Read ℕ) → numberAt bytes at ≡ gives r → Stands bytes at r
-unfolding numberAt overwrite
-read-unique bytes at h r e =
-    record {
-      fits = s .high;
-      end = s .end;
-      inside = omega (arith, s .end, lengths, length-positive (r .value));
-      same = ap (λ l. take at bytes ++ (new ++ l)) behind ∙ ap (λ l. take at bytes ++ l) (sym (s .bytes)) ∙ take-append-drop at bytes;
-    }
+pub read-unique : (bytes : List ℕ) (at : ℕ) → All IsByte bytes → (r : Read ℕ) → numberAt bytes at ≡ gives r → NumberStands bytes at r
+unfolding numberAt
+read-unique bytes at h r e = record { fits = s .high; stands = record { ends = s .end; inside = inside; there = s .bytes ∙ ap (λ l. new ++ l) (sym behind) } }
   where
     s : GroupsSay 9 0 at (drop at bytes) (gives r)
     s = subst (GroupsSay 9 0 at (drop at bytes)) e (groups-say (drop at bytes) 9 0 at refl (all-drop at bytes h))
@@ -198,11 +194,11 @@ read-unique bytes at h r e =
     new : List ℕ
     new = bytesOf (r .value)
 
-    lengths : length bytes - at ≡ length new + length (s .behind)
-    lengths = sym (length-drop at bytes) ∙ ap length (s .bytes) ∙ length-append new (s .behind)
+    inside : r.end ≤ length bytes
+    inside = omega (arith, s .end, sym (length-drop at bytes) ∙ ap length (s .bytes) ∙ length-append new (s .behind), length-positive (r .value))
 
-    behind : drop (at + length new) bytes ≡ s .behind
-    behind = sym (drop-drop (length new) at bytes) ∙ ap (drop (length new)) (s .bytes) ∙ drop-append-seam new (s .behind)
+    behind : drop (r .end) bytes ≡ s .behind
+    behind = ap (λ n. drop n bytes) (s .end) ∙ sym (drop-drop (length new) at bytes) ∙ ap (drop (length new)) (s .bytes) ∙ drop-append-seam new (s .behind)
 
 -- the elements of a slice of bytes
 pub all-bytes : (bs : List ℕ) → ((i : ℕ) → getD bs i 0 < 256) → All IsByte bs

@@ -1,12 +1,12 @@
 -- Laws of tests and of lists of tests, cited by the proofs of every layer. Assumes nothing.
-use Prim.Native.Nat.{ℕ, _≤_, _<_}
+use Prim.Native.Nat.{ℕ}
 use native.Mathlib.Omega.{arith}
 use mathlib.Core.Path.{_≡_, refl, sym, _∙_, subst}
 use mathlib.Core.Bool.{Bool, true, false, not, _&&_, _||_}
 use mathlib.Core.Logic.{_⊎_, inl, inr}
 use mathlib.Core.List.{List, [], _∷_, map}
-use lib.Dec.{T, leb, eqb, leb→le, nleb→lt, eqb→eq, eqb-refl, not-T, T-not}
-use Rattle.numbers.specs.Tests.{pick, conj, All}
+use lib.Dec.{T, eqb, leb→le, nleb→lt, eqb→eq, eqb-refl, not-T, T-not}
+use Rattle.numbers.specs.Tests.{pick, conj, every, All}
 
 -- what a choice gives, by its test
 
@@ -80,6 +80,18 @@ conj-T (b ∷ bs) h = let r = and-T b (conj bs) h in (r .0, conj-T bs (r .1))
 pub T-conj : (bs : List Bool) → Each bs → T (conj bs)
 T-conj [] h = tt
 T-conj (b ∷ bs) h = T-and b (conj bs) (h .0) (T-conj bs (h .1))
+
+-- a test of each element of a list
+
+pub every-T : {A : Type 0} (f : A → Bool) (xs : List A) → T (every f xs) → All (λ (x : A). T (f x)) xs
+unfolding every
+every-T f [] h = tt
+every-T f (x ∷ xs) h = let r = and-T (f x) (every f xs) h in (r .0, every-T f xs (r .1))
+
+pub T-every : {A : Type 0} (f : A → Bool) (xs : List A) → All (λ (x : A). T (f x)) xs → T (every f xs)
+unfolding every
+T-every f [] h = tt
+T-every f (x ∷ xs) h = T-and (f x) (every f xs) (h .0) (T-every f xs (h .1))
 
 -- equality tests
 

@@ -1,28 +1,18 @@
 -- Writing bytes at an offset: group by group, and one thing after another. Assumes nothing.
-use Prim.Native.Nat.{ℕ, zero, suc, _+_, _*_, _^_, _/_, _%_, _≤_, _<_}
-use native.Mathlib.Nat.{add-zero}
+use Prim.Native.Nat.{ℕ, _+_, _^_, _/_, _%_, _≤_, _<_}
 use native.Mathlib.Omega.{arith}
-use mathlib.Core.Path.{_≡_, refl, sym, ap, ap₂, _∙_, subst}
-use mathlib.Core.Bool.{Bool, true, false}
-use mathlib.Core.List.{List, [], _∷_, _++_, append-assoc}
-use lib.Dec.{T, leb, leb→le}
-use lib.ListN.{length, take, drop, set}
-use lib.Seq.{sets, sets-eq, length-sets, length-take-le}
-use borrow.Author.Tests.{le-leb, leb-true, lt-leb}
+use mathlib.Core.Path.{_≡_, sym, ap, _∙_, subst}
+use mathlib.Core.List.{List}
+use lib.ListN.{length, set}
+use lib.Seq.{sets}
+use borrow.Author.Tests.{le-leb, lt-leb}
 use native.Mathlib.Decide.{decLe}
 use Rattle.numbers.specs.Tests.{pick}
-use Rattle.numbers.specs.Answers.{Outcome, gives, refuses, Read}
-use Rattle.numbers.specs.SevenBit.{bytesOf, numberAt, overwrite, Written}
+use Rattle.numbers.specs.Answers.{gives, refuses}
+use Rattle.numbers.specs.SevenBit.{bytesOf, numberAt, Stands, overwrite, Written}
 use Rattle.numbers.proofs.ByteLaws.{bytes-last, bytes-more}
-use Rattle.numbers.proofs.ReadLaws.{number, read-back}
-
--- where there is room, writing byte by byte is writing all of them
-pub overwrite-sets : (b : List ℕ) (at : ℕ) (new : List ℕ) → at + length new ≤ length b → overwrite b at new ≡ sets b at new
-unfolding overwrite
-overwrite-sets b at new h = sym (sets-eq new b at h ∙ append-assoc (take at b) new (drop (at + length new) b))
-
-pub length-overwrite : (b : List ℕ) (at : ℕ) (new : List ℕ) → at + length new ≤ length b → length (overwrite b at new) ≡ length b
-length-overwrite b at new h = ap length (overwrite-sets b at new h) ∙ length-sets b at new
+use Rattle.numbers.proofs.PlaceLaws.{overwrite-stands}
+use Rattle.numbers.proofs.ReadLaws.{number, read-there}
 
 -- one group written, and the last one
 pub write-more : (b : List ℕ) (i x : ℕ) → 128 ≤ x → sets b i (bytesOf x) ≡ sets (set b i (x % 128 + 128)) (i + 1) (bytesOf (x / 128))
@@ -60,12 +50,11 @@ fitted {new} {before} {after} {at} {e} w = go (decLe (at + length new) (length b
         let p : gives e ≡ refuses 13 = rw (lt-leb (at + length new) (length before) (omega arith)) at (w .answers) in
         absurd (let z : _≡_ {A = ℕ} 0 1 = cc in omega arith)
 
--- what was written reads back as the same number and end
-pub written-reads : (x at e : ℕ) (before after : List ℕ) → x < 2 ^ 64 → Written (bytesOf x) at before (gives e) after → numberAt after at ≡ number x e
-unfolding overwrite
-written-reads x at e before after h w =
+-- what was written stands there, and a number reads back with the same end
+pub written-stands : {new before after : List ℕ} {at e : ℕ} → Written new at before (gives e) after → Stands after at new e
+written-stands {new} {before} {after} {at} {e} w =
     let f = fitted w in
-    let front : List ℕ = take at before in
-    let l : length front ≡ at = length-take-le at before (omega (arith, f .room)) in
-    let r = read-back front (drop (at + length (bytesOf x)) before) x h in
-    ap (λ b. numberAt b at) (f .bytes) ∙ subst (λ n. numberAt (front ++ (bytesOf x ++ drop (at + length (bytesOf x)) before)) n ≡ number x (n + length (bytesOf x))) l r ∙ ap (number x) (sym (f .end))
+    subst (λ l. Stands l at new e) (sym (f .bytes)) (subst (λ n. Stands (overwrite before at new) at new n) (sym (f .end)) (overwrite-stands before at new (f .room)))
+
+pub written-reads : {before after : List ℕ} {at e : ℕ} (x : ℕ) → x < 2 ^ 64 → Written (bytesOf x) at before (gives e) after → numberAt after at ≡ number x e
+written-reads x h w = read-there x h (written-stands w)

@@ -15,14 +15,14 @@ use Rattle.numbers.specs.declared.NumberWrite.{NumberWrite}
 use Rattle.numbers.specs.declared.NumberWrite.the-variants.{End, NoRoom}
 
 -- "groups of seven bits, low group first, 128 added to all but the last"; at most n groups before the last.
--- The second `let` keeps a check by computation from going on below the last group
+-- The `let` keeps a check by computation from going on below the last group
 unfoldable pub groups : ℕ → ℕ → List ℕ
 groups zero x = x ∷ []
 groups (suc n) x =
     let more : List ℕ = (x % 128 + 128) ∷ groups n (x / 128) in
     pick (ltb x 128) (x ∷ []) more
 
--- the bytes of a number: it has fewer groups than its value, or one
+-- the bytes of a number: at most x groups stand before the last
 unfoldable pub bytesOf : ℕ → List ℕ
 bytesOf x = groups x x
 
@@ -67,7 +67,7 @@ unfoldable pub groupsAt : ℕ → ℕ → List ℕ → Outcome (Read ℕ)
 groupsAt k i [] = refuses 9
 groupsAt k i (b ∷ bs) = byGroup (judge k b) b i (groupsAt (suc k) (suc i) bs)
 
--- the number at an offset of a list of bytes, "also at or past the end"
+-- the number at an offset of a list of bytes: 9 "also at or past the end" ("Read a record")
 unfoldable pub numberAt : List ℕ → ℕ → Outcome (Read ℕ)
 numberAt bytes at = groupsAt 0 at (drop at bytes)
 
@@ -77,9 +77,17 @@ outcomeOfRead (Value x e) = gives (record { value = x; end = e })
 outcomeOfRead MissingByte = refuses 9
 outcomeOfRead BadNumber = refuses 10
 
+-- Bytes in their place
+
+-- the bytes new stand at an offset of a list of bytes, up to an end: what the laws of reading and writing are said with
+pub record Stands (bytes : List ℕ) (at : ℕ) (new : List ℕ) (end : ℕ) : Type 0 where
+  pub ends : end ≡ at + length new
+  pub inside : end ≤ length bytes
+  pub there : drop at bytes ≡ new ++ drop end bytes
+
 -- Writing
 
--- the bytes with new ones from an offset on; "bytes before and behind it keep their content"
+-- the bytes with new ones from an offset on; "bytes before and behind it keep their content" ("Write a record")
 unfoldable pub overwrite : List ℕ → ℕ → List ℕ → List ℕ
 overwrite bytes at new = take at bytes ++ (new ++ drop (at + length new) bytes)
 

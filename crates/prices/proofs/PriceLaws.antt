@@ -56,12 +56,23 @@ bid-out b t = go (or-T (eqb b 0) (legal b && leb b highestBid) t)
     go (inl x) = inl (eqb→eq b 0 x)
     go (inr x) = let r = and-T (legal b) (leb b highestBid) x in inr (legal-out b (r .0), leb→le b highestBid (r .1))
 
+pub no-bid : T (isBid 0)
+unfolding isBid
+no-bid = tt
+
 pub bid-highest : (b : ℕ) → T (isBid b) → b ≤ highestBid
 bid-highest b t = go (bid-out b t)
   where
     go : (b ≡ 0) ⊎ (Legal b × (b ≤ highestBid)) → b ≤ highestBid
     go (inl x) = omega arith
     go (inr x) = x .1
+
+pub max-bid-legal : (p b : ℕ) → T (legal p) → T (isBid b) → T (legal (max p b))
+max-bid-legal p b h t = go (bid-out b t)
+  where
+    go : (b ≡ 0) ⊎ (Legal b × (b ≤ highestBid)) → T (legal (max p b))
+    go (inl x) = let e : max p b ≡ p = omega arith in rw e h
+    go (inr x) = max-legal p b h (legal-in b (x .0))
 
 -- the permitted price
 

@@ -33,7 +33,7 @@ isBid b = eqb b 0 || (legal b && leb b highestBid)
 unfoldable pub permitted : ℕ → ℕ
 permitted b = pick (eqb b 0) 1 (pick (ltb b dollarBorder) (b + 1) (b + step))
 
--- a number taken as a price, and the permitted price of a number taken as a bid: refusal 3 where it is none
+-- a number taken as a price, and the permitted price of a number taken as a bid: 3 where it isn't a legal price, or isn't a bid
 unfoldable pub priceOf : ℕ → Outcome ℕ
 priceOf p = pick (legal p) (gives p) (refuses 3)
 

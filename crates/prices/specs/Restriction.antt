@@ -17,6 +17,6 @@ phaseAfterTape close phase p = pick (eqb phase 0 && triggers close p) 1 phase
 unfoldable pub phaseAfterDayEnd : ℕ → ℕ
 phaseAfterDayEnd phase = pick (eqb phase 1) 2 0
 
--- "The restriction is on in phases 1 and 2"
+-- "The restriction is on in phases 1 and 2" ("The account of demand 3")
 unfoldable pub restrictionOn : ℕ → Bool
 restrictionOn phase = eqb phase 1 || eqb phase 2

@@ -1,6 +1,6 @@
 -- The table's entry for a bit length is the count of its rule, by one test over the 65 entries, and that is the count of the number's
 -- bytes. Assumes nothing.
-use Prim.Native.Nat.{ℕ, _<_, _^_}
+use Prim.Native.Nat.{ℕ, _<_}
 use native.Mathlib.Omega.{arith}
 use mathlib.Core.Path.{_≡_, sym, _∙_}
 use mathlib.Core.Bool.{Bool}

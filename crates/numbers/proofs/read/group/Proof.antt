@@ -1,5 +1,4 @@
 -- A byte is judged as the definition says, at each return by the tests that lead there. Assumes nothing.
-use Prim.Native.Nat.{ℕ}
 use native.Mathlib.Omega.{arith}
 use mathlib.Core.Path.{_≡_, sym, ap, ap₂, _∙_}
 use Rattle.numbers.specs.SevenBit.{judge}

@@ -1,12 +1,12 @@
 -- The loop of `read_number`: the groups read so far say `value`, and the rest of the bytes say the rest. Assumes nothing.
-use Prim.Native.Nat.{ℕ, _+_, _*_, _^_, _≤_, _<_, _-_}
+use Prim.Native.Nat.{_+_, _*_, _^_, _<_, _-_}
 use native.Mathlib.Omega.{arith}
-use mathlib.Core.Path.{_≡_, sym, ap, _∙_}
+use mathlib.Core.Path.{_≡_, sym, _∙_}
 use lib.ListN.{length, getD}
 use borrow.Author.Needs.{needs}
-use Rattle.numbers.specs.declared.Group.the-variants.{More, Last, Bad}
+use Rattle.numbers.specs.declared.Group.the-variants.{More}
 use Rattle.numbers.specs.SevenBit.{judge}
-use Rattle.numbers.proofs.ReadLaws.{Reading, IsByte, reading-start, reading-missing, reading-bad, reading-last, reading-more, last-fits, more-high, more-few, more-fits, scale-fits}
+use Rattle.numbers.proofs.ReadLaws.{Reading, IsByte, reading-start, reading-missing, reading-bad, reading-last, reading-more, last-fits, more-high, more-fits, scale-fits}
 use Rattle.numbers.proofs.read.read_number.Statement.{statement}
 use Rattle.numbers.proofs.read.read_number.Tie as tie
 

@@ -1,5 +1,5 @@
 -- The loop of `put_number`: writing the rest of the number from here on is writing all of it from the start. Assumes nothing.
-use Prim.Native.Nat.{ℕ, _+_, _≤_}
+use Prim.Native.Nat.{_+_, _≤_}
 use native.Mathlib.Omega.{arith}
 use mathlib.Core.Path.{_≡_, refl, sym, _∙_}
 use lib.ListN.{length}
@@ -7,7 +7,8 @@ use lib.Seq.{sets}
 use borrow.Author.Needs.{needs}
 use Rattle.numbers.specs.SevenBit.{bytesOf}
 use Rattle.numbers.proofs.ByteLaws.{length-last, length-more}
-use Rattle.numbers.proofs.WriteLaws.{overwrite-sets, write-more, write-last}
+use Rattle.numbers.proofs.PlaceLaws.{overwrite-sets}
+use Rattle.numbers.proofs.WriteLaws.{write-more, write-last}
 use Rattle.numbers.proofs.write.put_number.Statement.{statement}
 use Rattle.numbers.proofs.write.put_number.Tie as tie
 

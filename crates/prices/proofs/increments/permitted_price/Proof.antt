@@ -1,5 +1,5 @@
 -- A bid is at most the highest one, so the price above it is found; any other number is refused. Assumes nothing.
-use mathlib.Core.Path.{_≡_, ap, _∙_}
+use mathlib.Core.Path.{ap, _∙_}
 use borrow.Author.Needs.{needs}
 use Rattle.numbers.specs.Answers.{gives, refuses}
 use Rattle.numbers.proofs.TestLaws.{answered-yes, answered-no, answered-T}

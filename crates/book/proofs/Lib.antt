@@ -1,0 +1,9 @@
+-- Laws that the layer above cites.
+pub mod ShareLaws
+pub mod OrderLaws
+pub mod RisingLaws
+pub mod PositionLaws
+pub mod CounterpartyLaws
+pub mod PriorityLaws
+pub mod MeetingLaws
+pub mod MatchingLaws

@@ -1,0 +1,27 @@
+// Orders, their priority and matching: the third layer.
+
+// An order as document 01, "Orders", has it: the fields of its entry, then what the venue adds. `limit` is the price of the
+// entry, `price` the present price, and `shares` those left.
+pub struct Order {
+    pub id: u32,
+    // 0 buy, 1 long sell, 2 short, 3 short exempt
+    pub mark: u32,
+    pub limit: u32,
+    pub shares: u32,
+    // 1 displayed, 0 not
+    pub show: u32,
+    // 0 day, 1 immediate or cancel
+    pub life: u32,
+    // 0 continuous, 1 once, 2 no more, 3 opt-out
+    pub slide: u32,
+    pub stamp: u32,
+    pub price: u32,
+    // the national bid at its entry
+    pub entry_bid: u32,
+    // priced above its limit by the restriction at its entry, or re-priced since
+    pub adjusted: bool,
+    // an order with slide once that was re-priced to the larger of limit and entry bid
+    pub used: bool,
+    // the bid was 0 or below the present price when that price was given
+    pub clear: bool,
+}

@@ -1,0 +1,21 @@
+-- Laws of who is restricted and of the permitted price of the bid in force. Assumes nothing.
+use Prim.Native.Nat.{ℕ, _<_}
+use mathlib.Core.Path.{_≡_}
+use lib.Dec.{T, eqb, eqb→eq}
+use Rattle.numbers.proofs.TestLaws.{and-T, T-and, eq→T}
+use Rattle.prices.specs.Restriction.{restrictionOn}
+use Rattle.prices.proofs.PriceLaws.{permitted-above}
+use Rattle.engine.specs.declared.Market.{Market}
+use Rattle.engine.specs.Market.{restricted, permittedNow}
+
+pub restricted-in : (m : Market) (mark : ℕ) → T (restrictionOn (m .phase)) → mark ≡ 2 → T (restricted m mark)
+unfolding restricted
+restricted-in m mark t e = T-and (restrictionOn (m .phase)) (eqb mark 2) t (eq→T e)
+
+pub restricted-mark : (m : Market) (mark : ℕ) → T (restricted m mark) → mark ≡ 2
+unfolding restricted
+restricted-mark m mark t = eqb→eq mark 2 (and-T (restrictionOn (m .phase)) (eqb mark 2) t .1)
+
+pub permittedNow-above : (m : Market) → m.bid < permittedNow m
+unfolding permittedNow
+permittedNow-above m = permitted-above (m .bid)

@@ -1,0 +1,14 @@
+pub mod Market
+pub mod Reports
+pub mod Working
+pub mod Pass
+pub mod Venue
+pub mod Sound
+pub mod Refusals
+pub mod Run
+pub mod Records
+pub mod RoundTrips
+pub mod Reached
+pub mod Account
+pub mod Demand3
+pub mod Examples
