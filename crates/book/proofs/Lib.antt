@@ -7,3 +7,8 @@ pub mod CounterpartyLaws
 pub mod PriorityLaws
 pub mod MeetingLaws
 pub mod MatchingLaws
+pub mod TabulateLaws
+pub mod WordLaws
+pub mod WordStepLaws
+pub mod HoldsLaws
+pub mod RankLaws

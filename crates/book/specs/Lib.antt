@@ -1,3 +1,7 @@
 pub mod Orders
 pub mod Matching
 pub mod Sound
+pub mod Words
+pub mod Positions
+pub mod WordSteps
+pub mod Stamps

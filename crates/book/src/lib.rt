@@ -1,4 +1,10 @@
 // Orders, their priority and matching: the third layer.
+pub mod place;
+pub mod priority;
+pub mod search;
+pub mod sound;
+pub mod trade;
+pub mod words;
 
 // An order as document 01, "Orders", has it: the fields of its entry, then what the venue adds. `limit` is the price of the
 // entry, `price` the present price, and `shares` those left.
@@ -24,4 +30,10 @@ pub struct Order {
     pub used: bool,
     // the bid was 0 or below the present price when that price was given
     pub clear: bool,
+}
+
+// Where an order stands in the book, counted from 0.
+pub enum Position {
+    At(usize),
+    Absent,
 }

@@ -1,0 +1,67 @@
+-- The loop of `rank`: nothing below low is above the id, all from high on are. Assumes nothing.
+use borrow.Author.Needs.{needs}
+use Prim.Native.Nat.{ℕ, _+_, _*_, _-_, _/_, _≤_, _<_}
+use mathlib.Core.Path.{_≡_, refl, sym, ap, _∙_, subst}
+use native.Mathlib.Omega.{arith}
+use Rattle.book.specs.Words.{resting}
+use Rattle.book.proofs.RisingLaws.{idsRise-rises}
+use Rattle.book.proofs.RankLaws.{RankBetween, between-start, between-low, between-high, between-end}
+use Rattle.book.proofs.search.rank.Statement.{statement}
+use Rattle.book.proofs.search.rank.Tie as tie
+
+abbrev Inv-loop : tie.InvT-loop
+Inv-loop w id low₀ high₀ low high = RankBetween (resting w) id low high
+
+abbrev μ-loop : tie.MeasureT-loop
+μ-loop w id low₀ high₀ low high = high - low
+
+count-requires : tie.Need-count-requires Inv-loop μ-loop
+count-requires c κs = search needs
+
+loop-holds : tie.Need-loop-holds Inv-loop μ-loop
+loop-holds c = let s = c .before .before in between-start (resting (s .args .w .now)) (s .args .id) (c .count .result) (c .count .ensures)
+
+sub-middle : tie.Need-sub-middle Inv-loop μ-loop
+sub-middle c = search needs
+
+add-middle : tie.Need-add-middle Inv-loop μ-loop
+add-middle c = search needs
+
+id-at-requires : tie.Need-id-at-requires Inv-loop μ-loop
+id-at-requires c κs = search needs
+
+add-low : tie.Need-add-low Inv-loop μ-loop
+add-low c = search needs
+
+loop-less : tie.Need-loop-less Inv-loop μ-loop
+loop-less c = search needs
+
+loop-again : tie.Need-loop-again Inv-loop μ-loop
+loop-again c = let s = c .before .before .before .before .before .before in let at = c .before .before .before .loop in between-low (at .low + (at .high - at .low) / 2) (idsRise-rises 0 (resting (s .args .w .now)) (s .pre .1)) (at .inv) (search needs) (subst (λ (x : ℕ). x ≤ s .args .id) (c .before .id-at .ensures) (c .if1 .taken))
+
+loop-less-2 : tie.Need-loop-less-2 Inv-loop μ-loop
+loop-less-2 c = search needs
+
+loop-again-2 : tie.Need-loop-again-2 Inv-loop μ-loop
+loop-again-2 c = let s = c .before .before .before .before .before .before in let at = c .before .before .before .loop in between-high (at .low + (at .high - at .low) / 2) (idsRise-rises 0 (resting (s .args .w .now)) (s .pre .1)) (at .inv) (search needs) (search needs) (subst (λ (x : ℕ). s .args .id < x) (c .before .id-at .ensures) (c .if1 .left))
+
+returns : tie.Need-returns Inv-loop μ-loop
+returns c = between-end (c .before .loop .inv) (c .loop-test .left)
+
+pub rank-spec : {M : Type 1} → statement M
+rank-spec =
+    tie.close
+    (tie.spec
+    Inv-loop
+    μ-loop
+    count-requires
+    loop-holds
+    sub-middle
+    add-middle
+    id-at-requires
+    add-low
+    loop-less
+    loop-again
+    loop-less-2
+    loop-again-2
+    returns)

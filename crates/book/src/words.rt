@@ -1,0 +1,141 @@
+// The layout of a book in lent words: its header words, and its orders one at a time by value.
+use crate::Order;
+ghost use mathlib.Core.Path.{_≡_};
+ghost use Prim.Native.Nat.{_+_, _*_, _<_, _≤_};
+ghost use mathlib.Core.List.{[]};
+ghost use lib.ListN.{length, getD};
+ghost use Rattle.book.specs.Words.{venueWords, flagWord, emptyOrder, word, resting, Book, Holds, HeaderSet};
+ghost use Rattle.book.specs.WordSteps.{Row, Copied, Stored};
+
+// The header words, and the words of an order.
+const HEADER: usize = 16;
+const WIDTH: usize = 13;
+
+pub fn wide(x: u32) -> usize
+    ensures { λ r. ⌜ r ≡ x ⌝ }
+{
+    x as usize
+}
+
+// The number of orders.
+pub fn count(w: &[u32]) -> usize
+    requires { ⌜ Book (now w) ⌝ }
+    ensures { λ r. ⌜ r ≡ length (resting (now (w .entry))) ⌝ }
+{
+    wide(w[0])
+}
+
+pub fn header_word(w: &[u32], k: usize) -> u32
+    requires { ⌜ Book (now w) × (k < 16) ⌝ }
+    ensures { λ r. ⌜ r ≡ getD (now (w .entry)) k 0 ⌝ }
+{
+    w[k]
+}
+
+pub fn set_header_word(w: &mut [u32], k: usize, x: u32)
+    requires { ⌜ Book (now w) × (0 < k) × (k < 16) ⌝ }
+    ensures { λ _. ⌜ HeaderSet (now (w .entry)) (now (w .exit)) k x ⌝ }
+{
+    w[k] = x;
+}
+
+// Makes words that are enough for a venue a book without orders.
+pub fn clear(w: &mut [u32])
+    requires { ⌜ venueWords ≤ length (now w) ⌝ }
+    ensures { λ _. ⌜ Holds (now (w .entry)) (now (w .exit)) [] ⌝ }
+{
+    w[0] = 0;
+}
+
+// The index of the first word of place i.
+pub fn first_word(i: usize) -> usize
+    requires { ⌜ i ≤ 256 ⌝ }
+    ensures { λ r. ⌜ r ≡ 16 + i * 13 ⌝ }
+{
+    HEADER + i * WIDTH
+}
+
+// Word k of place i.
+pub fn word_at(w: &[u32], i: usize, k: usize) -> u32
+    requires { ⌜ (venueWords ≤ length (now w)) × (i < 256) × (k < 13) ⌝ }
+    ensures { λ r. ⌜ r ≡ word (now (w .entry)) i k ⌝ }
+{
+    w[HEADER + i * WIDTH + k]
+}
+
+// The order at position i.
+pub fn load(w: &[u32], i: usize) -> Order
+    requires { ⌜ Book (now w) × (i < length (resting (now w))) ⌝ }
+    ensures { λ r. ⌜ r ≡ getD (resting (now (w .entry))) i emptyOrder ⌝ }
+{
+    let p = HEADER + i * WIDTH;
+    Order {
+        id: w[p],
+        mark: w[p + 1],
+        limit: w[p + 2],
+        shares: w[p + 3],
+        show: w[p + 4],
+        life: w[p + 5],
+        slide: w[p + 6],
+        stamp: w[p + 7],
+        price: w[p + 8],
+        entry_bid: w[p + 9],
+        adjusted: w[p + 10] == 1,
+        used: w[p + 11] == 1,
+        clear: w[p + 12] == 1,
+    }
+}
+
+fn flag_word(b: bool) -> u32
+    ensures { λ r. ⌜ r ≡ flagWord b ⌝ }
+{
+    if b {
+        return 1;
+    }
+    0
+}
+
+// The words of an order.
+fn row_of(o: Order) -> [u32; 13]
+    ensures { λ r. ⌜ Row r o ⌝ }
+{
+    let a = flag_word(o.adjusted);
+    let u = flag_word(o.used);
+    let c = flag_word(o.clear);
+    [
+        o.id,
+        o.mark,
+        o.limit,
+        o.shares,
+        o.show,
+        o.life,
+        o.slide,
+        o.stamp,
+        o.price,
+        o.entry_bid,
+        a,
+        u,
+        c,
+    ]
+}
+
+// Copies the words of an order to w from an index on.
+fn copy_row(w: &mut [u32], at: usize, row: &[u32; 13])
+    requires { ⌜ at + 13 ≤ length (now w) ⌝ }
+    ensures { λ _. ⌜ Copied (now (w .entry)) (now (w .exit)) at (now (row .entry)) 13 ⌝ }
+{
+    let mut k = 0;
+    while k < 13 {
+        w[at + k] = row[k];
+        k += 1;
+    }
+}
+
+// Stores an order in place i, used or not.
+pub fn store(w: &mut [u32], i: usize, o: Order)
+    requires { ⌜ (venueWords ≤ length (now w)) × (i < 256) ⌝ }
+    ensures { λ _. ⌜ Stored (now (w .entry)) (now (w .exit)) i o ⌝ }
+{
+    let row = row_of(o);
+    copy_row(w, HEADER + i * WIDTH, &row);
+}
