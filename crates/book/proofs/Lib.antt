@@ -12,3 +12,4 @@ pub mod WordLaws
 pub mod WordStepLaws
 pub mod HoldsLaws
 pub mod RankLaws
+pub mod StepLaws

@@ -103,11 +103,14 @@ rank-of-found id l j r h e =
 
 -- the searches
 
-pub find-none : (id : ℕ) (l : List Order) → ((j : ℕ) → j < length l → idIn l j ≡ id → ⊥) → find id l ≡ none
+find-none : (id : ℕ) (l : List Order) → ((j : ℕ) → j < length l → idIn l j ≡ id → ⊥) → find id l ≡ none
 unfolding find
 find-none id [] h = refl
 find-none id (o ∷ os) h =
     pick-no _ _ _ (ne→T id (o .id) (λ e. h 0 (omega arith) (sym e))) ∙ find-none id os (λ j l. h (suc j) (omega arith))
+
+pub find-absent : (id : ℕ) (l : List Order) → Rises 0 l → ((j : ℕ) → suc j ≡ rankOf id l → idIn l j ≡ id → ⊥) → find id l ≡ none
+find-absent id l r k = find-none id l (λ j h e. k j (rank-of-found id l j r h e) e)
 
 pub firstAbove-at : (id : ℕ) (l : List Order) → rankOf id l < length l → firstAbove id l ≡ some (getD l (rankOf id l) emptyOrder)
 unfolding firstAbove rankOf pick

@@ -1,0 +1,93 @@
+// The best order that a working order reaches: by price, then displayed before not, then lower stamp.
+use crate::Order;
+use crate::Position;
+use crate::words;
+ghost use mathlib.Core.Path.{_≡_};
+ghost use Prim.Native.Nat.{_+_, _<_};
+ghost use lib.Dec.{ltb, eqb};
+ghost use lib.ListN.{length};
+ghost use Rattle.numbers.specs.Tests.{pick};
+ghost use Rattle.book.specs.Matching;
+ghost use Rattle.book.specs.Words.{resting, Book};
+ghost use Rattle.book.specs.Positions.{Below, IsAt, Found, considered};
+
+// Whether the working order o reaches the resting order x.
+pub fn reaches(o: Order, x: Order) -> bool
+    ensures { λ r. ⌜ r ≡ Matching.reaches o x ⌝ }
+{
+    if o.mark == 0 {
+        if x.mark == 0 {
+            return false;
+        }
+        return x.price <= o.price;
+    }
+    if x.mark == 0 {
+        return o.price <= x.price;
+    }
+    false
+}
+
+// Whether, for an order of a mark, price p is better than price q.
+fn better_price(mark: u32, p: u32, q: u32) -> bool
+    ensures { λ r. ⌜ r ≡ pick (eqb mark 0) (ltb p q) (ltb q p) ⌝ }
+{
+    if mark == 0 {
+        return p < q;
+    }
+    q < p
+}
+
+// Whether a is better than b for the working order o.
+pub fn better(o: Order, a: Order, b: Order) -> bool
+    ensures { λ r. ⌜ r ≡ Matching.better o a b ⌝ }
+{
+    if better_price(o.mark, a.price, b.price) {
+        return true;
+    }
+    if a.price == b.price {
+        if b.show < a.show {
+            return true;
+        }
+        if a.show == b.show {
+            return a.stamp < b.stamp;
+        }
+        return false;
+    }
+    false
+}
+
+// The better of the best so far and the order at position i.
+fn consider(w: &[u32], o: Order, found: Position, i: usize) -> Position
+    requires { ⌜ Book (now w) × Below found i × (i < length (resting (now w))) ⌝ }
+    ensures { λ r. ⌜ IsAt (resting (now (w .entry))) r (i + 1) (considered o (resting (now (w .entry))) found i) ⌝ }
+{
+    let x = words::load(w, i);
+    if reaches(o, x) {
+        return match found {
+            Position::Absent => Position::At(i),
+            Position::At(b) => {
+                if better(o, x, words::load(w, b)) {
+                    Position::At(i)
+                } else {
+                    Position::At(b)
+                }
+            },
+        };
+    }
+    found
+}
+
+// The best order that o reaches.
+pub fn best(w: &[u32], o: Order) -> Position
+    requires { ⌜ Book (now w) ⌝ }
+    ensures { λ r. ⌜ Found (resting (now (w .entry))) r (Matching.best o (resting (now (w .entry)))) ⌝ }
+{
+    let n = words::count(w);
+    let mut found = Position::Absent;
+    let mut i = 0;
+    while i < n {
+        found = consider(w, o, found, i);
+        i += 1;
+    }
+    found
+}
