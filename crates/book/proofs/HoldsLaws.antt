@@ -78,8 +78,8 @@ header-set w k x h₀ h b =
     }
 
 -- the orders behind position i shifted down, and the count lowered
-pub removed : (w w₁ : List ℕ) (i n : ℕ) → n ≡ length (resting w) → Book w → i < length (resting w) → ShiftedDown w w₁ (16 + i * 13) (16 + (n - 1) * 13) → Holds w (set w₁ 0 (n - 1)) (removeAt i (resting w))
-removed w w₁ i n e b h c =
+pub removed : (w w₁ : List ℕ) (i n from to : ℕ) → n ≡ length (resting w) → from ≡ 16 + i * 13 → to ≡ 16 + (n - 1) * 13 → Book w → i < length (resting w) → ShiftedDown w w₁ from to → Holds w (set w₁ 0 (n - 1)) (removeAt i (resting w))
+removed w w₁ i n from to e ef et b h c =
     let last = n - 1 in
     let w′ = set w₁ 0 last in
     let long : venueWords ≤ length w₁ = omega (arith, c .size, b .long) in
@@ -117,8 +117,8 @@ replaced w w′ i o b h c =
     }
 
 -- the orders from position i on shifted up, an order stored in place i, and the count raised
-pub inserted : (w w₁ w₂ : List ℕ) (o : Order) (i n : ℕ) → n ≡ length (resting w) → i ≤ length (resting w) → Book w → length (resting w) < 256 → ShiftedUp w w₁ (16 + i * 13) (16 + n * 13) → Stored w₁ w₂ i o → Holds w (set w₂ 0 (n + 1)) (insertAt i o (resting w))
-inserted w w₁ w₂ o i n e hi b h r c =
+pub inserted : (w w₁ w₂ : List ℕ) (o : Order) (i n from to : ℕ) → n ≡ length (resting w) → from ≡ 16 + i * 13 → to ≡ 16 + n * 13 → i ≤ length (resting w) → Book w → length (resting w) < 256 → ShiftedUp w w₁ from to → Stored w₁ w₂ i o → Holds w (set w₂ 0 (n + 1)) (insertAt i o (resting w))
+inserted w w₁ w₂ o i n from to e ef et hi b h r c =
     let w′ = set w₂ 0 (n + 1) in
     let long : venueWords ≤ length w₂ = omega (arith, c .size, r .size, b .long) in
     let kept : (j : ℕ) → 0 < j → getD w′ j 0 ≡ getD w₂ j 0 = counted-kept w₂ (n + 1) long in
