@@ -13,3 +13,4 @@ pub mod SoundLaws
 pub mod ReachedLaws
 pub mod BoundLaws
 pub mod RecordLaws
+pub mod ReadingLaws

@@ -1,4 +1,7 @@
 // The venue of document 01: events, reports, refusals and the law of demand 3. The fourth layer.
+pub mod host;
+pub mod record;
+pub mod report;
 
 // The close, the phase of the restriction and the national bid.
 pub struct Market {
@@ -42,4 +45,36 @@ pub enum Move {
     Stay,
     Cancel,
     Reprice(u32, bool),
+}
+
+// Why no event record stands at an offset: a byte is missing, a number is bad, the kind is none, or a field is above 32 bits.
+pub enum ReadRefusal {
+    MissingByte,
+    BadNumber,
+    UnknownKind,
+    FieldTooLarge,
+}
+
+// One field of an event record with the offset behind it, or the refusal.
+pub enum FieldRead {
+    Field { value: u32, end: usize },
+    Refused(ReadRefusal),
+}
+
+// The offset behind the fields that were read, or the refusal.
+pub enum FieldsRead {
+    End(usize),
+    Refused(ReadRefusal),
+}
+
+// What stands at an offset of a byte slice: an event with the offset behind its record, or the refusal.
+pub enum RecordRead {
+    Record { event: Event, end: usize },
+    Refused(ReadRefusal),
+}
+
+// What writing an event record answers: the offset behind it, or that it doesn't fit.
+pub enum RecordWrite {
+    End(usize),
+    NoRoom,
 }

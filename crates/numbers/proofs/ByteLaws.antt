@@ -4,8 +4,10 @@ use native.Mathlib.Nat.{pow-suc}
 use native.Mathlib.Decide.{decLt}
 use native.Mathlib.Omega.{arith}
 use mathlib.Core.Path.{_≡_, refl, ap}
-use mathlib.Core.List.{List, [], _∷_}
-use lib.ListN.{length, length-append}
+use native.Mathlib.Numerals.{add-one}
+use mathlib.Core.List.{List, [], _∷_, _++_}
+use lib.ListN.{length, getD, drop, length-append, drop-of-length-le}
+use lib.Seq.{drop-cons}
 use borrow.Author.Tests.{lt-ltb, le-ltb}
 use Rattle.numbers.specs.Tests.{pick, All}
 use Rattle.numbers.specs.SevenBit.{groups, bytesOf, bytesOfAll}
@@ -76,6 +78,14 @@ pub numbers-size : (xs : List ℕ) → All (λ (x : ℕ). x < 2 ^ 32) xs → len
 unfolding bytesOfAll
 numbers-size [] h = omega arith
 numbers-size (x ∷ xs) h = simp length-append (omega (arith, at-most-5 x (h .0), numbers-size xs (h .1)))
+
+pub all-next : (xs : List ℕ) (i : ℕ) → i < length xs → bytesOfAll (drop i xs) ≡ bytesOf (getD xs i 0) ++ bytesOfAll (drop (i + 1) xs)
+unfolding bytesOfAll
+all-next xs i h = rw (add-one, drop-cons xs i 0)
+
+pub all-none : (xs : List ℕ) (i : ℕ) → length xs ≤ i → bytesOfAll (drop i xs) ≡ []
+unfolding bytesOfAll
+all-none xs i h = rw (drop-of-length-le xs {i = i} h)
 
 -- a kind below 128 and 32-bit fields
 pub kind-size : (k : ℕ) (xs : List ℕ) → k < 128 → All (λ (x : ℕ). x < 2 ^ 32) xs → length (bytesOfAll (k ∷ xs)) ≤ 1 + 5 * length xs

@@ -1,17 +1,19 @@
 -- Writing bytes at an offset: group by group, and one thing after another. Assumes nothing.
-use Prim.Native.Nat.{ℕ, _+_, _^_, _/_, _%_, _≤_, _<_}
+use Prim.Native.Nat.{ℕ, suc, _+_, _^_, _/_, _%_, _≤_, _<_}
 use native.Mathlib.Omega.{arith}
-use mathlib.Core.Path.{_≡_, sym, ap, _∙_, subst}
-use mathlib.Core.List.{List}
-use lib.ListN.{length, set}
-use lib.Seq.{sets}
-use borrow.Author.Tests.{le-leb, lt-leb}
+use mathlib.Core.Path.{_≡_, refl, sym, ap, _∙_, subst}
+use mathlib.Core.List.{List, [], _∷_, _++_}
+use lib.ListN.{length, set, length-append}
+use lib.Seq.{sets, length-sets}
+use mathlib.Core.Bool.{Bool, true, false}
+use lib.Dec.{leb}
+use borrow.Author.Tests.{le-leb, lt-leb, leb-true, leb-false}
 use native.Mathlib.Decide.{decLe}
 use Rattle.numbers.specs.Tests.{pick}
 use Rattle.numbers.specs.Answers.{gives, refuses}
-use Rattle.numbers.specs.SevenBit.{bytesOf, numberAt, Stands, overwrite, Written}
+use Rattle.numbers.specs.SevenBit.{bytesOf, numberAt, Stands, overwrite, Put, Written}
 use Rattle.numbers.proofs.ByteLaws.{bytes-last, bytes-more}
-use Rattle.numbers.proofs.PlaceLaws.{overwrite-stands}
+use Rattle.numbers.proofs.PlaceLaws.{overwrite-sets, overwrite-stands}
 use Rattle.numbers.proofs.ReadLaws.{number, read-there}
 
 -- one group written, and the last one
@@ -20,6 +22,39 @@ write-more b i x h = ap (sets b i) (bytes-more x h) ∙ ap (λ k. sets (set b i 
 
 pub write-last : (b : List ℕ) (i x : ℕ) → x < 128 → sets b i (bytesOf x) ≡ set b i x
 write-last b i x h = ap (sets b i) (bytes-last x h)
+
+-- what is still to be written from here is what was to be written at the start
+pub record Remaining (before : List ℕ) (at : ℕ) (all bytes : List ℕ) (i : ℕ) (rest : List ℕ) : Type 0 where
+  pub same : sets before at all ≡ sets bytes i rest
+  pub ends : i + length rest ≡ at + length all
+  pub long : length bytes ≡ length before
+
+pub remaining-all : (before : List ℕ) (at : ℕ) (all : List ℕ) → Remaining before at all before at all
+remaining-all before at all = record { same = refl; ends = refl; long = refl }
+
+sets-append : (b : List ℕ) (i : ℕ) (x y : List ℕ) → sets b i (x ++ y) ≡ sets (sets b i x) (i + length x) y
+sets-append b i [] y = ap (λ k. sets b k y) (omega arith)
+sets-append b i (v ∷ x) y = sets-append (set b i v) (suc i) x y ∙ ap (λ k. sets (sets (set b i v) (suc i) x) k y) (omega arith)
+
+module _ {before all bytes : List ℕ} {at i : ℕ} (room : at + length all ≤ length before) where
+  pub remaining-fits : (x y : List ℕ) → Remaining before at all bytes i (x ++ y) → i + length x ≤ length bytes
+  remaining-fits x y r = omega (arith, room, r .ends, r .long, length-append x y)
+
+  pub remaining-put : {after : List ℕ} {e : ℕ} (x y : List ℕ) → Remaining before at all bytes i (x ++ y) → Put x i bytes e after → Remaining before at all after e y
+  remaining-put {after} {e} x y r p = record { same = rw (written, p .ends) (r .same ∙ sets-append bytes i x y); ends = omega (arith, p .ends, r .ends, length-append x y); long = ap length written ∙ length-sets bytes i x ∙ r .long }
+    where
+      written : after ≡ sets bytes i x
+      written = p .leaves ∙ overwrite-sets bytes i x (remaining-fits x y r)
+
+  pub remaining-none : Remaining before at all bytes i [] → Put all at before i bytes
+  remaining-none r = record { ends = omega (arith, r .ends); leaves = sym (overwrite-sets before at all room ∙ r .same) }
+
+-- what a test of the count of the bytes says of them
+pub room : (new : List ℕ) (at len : ℕ) {n : ℕ} {t : Bool} → n ≡ length new → t ≡ leb (at + n) len → t ≡ true → at + length new ≤ len
+room new at len {n} e f g = omega (arith, e, leb-true (at + n) len (sym f ∙ g))
+
+pub no-room : (new : List ℕ) (at len : ℕ) {n : ℕ} {t : Bool} → n ≡ length new → t ≡ leb (at + n) len → t ≡ false → len < at + length new
+no-room new at len {n} e f g = omega (arith, e, leb-false (at + n) len (sym f ∙ g))
 
 -- what a write that fits and one that doesn't say
 pub written-fits : {new before after : List ℕ} {at e : ℕ} → at + length new ≤ length before → e ≡ at + length new → after ≡ overwrite before at new → Written new at before (gives e) after

@@ -96,7 +96,12 @@ pub record Written (new : List ℕ) (at : ℕ) (before : List ℕ) (answer : Out
   pub answers : answer ≡ pick (leb (at + length new) (length before)) (gives (at + length new)) (refuses 13)
   pub leaves : after ≡ pick (leb (at + length new) (length before)) (overwrite before at new) before
 
--- the paper's terms for the answers of `write_number`
+-- what writing bytes for which there is room leaves: the end, and the buffer
+pub record Put (new : List ℕ) (at : ℕ) (before : List ℕ) (end : ℕ) (after : List ℕ) : Type 0 where
+  pub ends : end ≡ at + length new
+  pub leaves : after ≡ overwrite before at new
+
+-- the paper's terms for the answers of `write_number` and `write_numbers`
 abbrev pub outcomeOfWrite : NumberWrite → Outcome ℕ
 outcomeOfWrite (End e) = gives e
 outcomeOfWrite NoRoom = refuses 13

@@ -1,6 +1,7 @@
 // Bit lengths, and how many bytes a number takes.
 ghost use mathlib.Core.Path.{_≡_};
-ghost use Rattle.numbers.specs.SevenBit.{BitLength, byteCount};
+ghost use lib.ListN.{length};
+ghost use Rattle.numbers.specs.SevenBit.{BitLength, byteCount, bytesOfAll};
 
 // "a table of 65 counts, one for each bit length"
 const COUNTS: [u8; 65] = [
@@ -83,4 +84,17 @@ pub fn byte_count(x: u64) -> usize
 {
     let n = bit_length(x) as usize;
     COUNTS[n] as usize
+}
+
+// How many bytes several numbers take, one after another.
+pub fn byte_counts(xs: &[u64]) -> usize
+    ensures { λ r. ⌜ r ≡ length (bytesOfAll (now (xs .entry))) ⌝ }
+{
+    let mut count = 0;
+    let mut i = 0;
+    while i < xs.len() {
+        count += byte_count(xs[i]);
+        i += 1;
+    }
+    count
 }

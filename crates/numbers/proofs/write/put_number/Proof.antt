@@ -59,7 +59,7 @@ returns : tie.Need-returns Inv-loop μ-loop
 returns c =
     let s = c .before .loop in
     let h = c .loop-test .left in
-    (omega (arith, s .inv .1, length-last (s .rest) h), sym (overwrite-sets _ _ _ (c .before .before .pre) ∙ s .inv .0 ∙ write-last (s .bytes) (s .i) (s .rest) h))
+    record { ends = omega (arith, s .inv .1, length-last (s .rest) h); leaves = sym (overwrite-sets _ _ _ (c .before .before .pre) ∙ s .inv .0 ∙ write-last (s .bytes) (s .i) (s .rest) h) }
 
 pub put-number-spec : {M : Type 1} → statement M
 put-number-spec =

@@ -1,0 +1,23 @@
+-- The numbers written are those of the report of an accepted entry. Assumes nothing.
+use Rattle.engine.specs.Records.{reportBytes}
+use borrow.Author.Needs.{needs}
+use Rattle.engine.proofs.report.write_accepted.Statement.{statement}
+use Rattle.engine.proofs.report.write_accepted.Tie as tie
+
+slice-aggregate-put-numbers : tie.Need-slice-aggregate-put-numbers
+slice-aggregate-put-numbers c = search needs
+
+put-numbers-requires : tie.Need-put-numbers-requires
+unfolding reportBytes
+put-numbers-requires c κs = c .before .before .before .pre
+
+same-length : tie.Need-same-length
+same-length c = search needs
+
+returns : tie.Need-returns
+unfolding reportBytes
+returns c = c .before .before .put-numbers .ensures
+
+pub write-accepted-spec : {M : Type 1} → statement M
+write-accepted-spec =
+    tie.close (tie.spec slice-aggregate-put-numbers put-numbers-requires same-length returns)

@@ -1,0 +1,48 @@
+-- The answers of the record calls in document 01's terms, by its numbers: 9 a missing byte, 10 a bad number, 11 the kind, 12 a field,
+-- 13 no room. Assumes nothing.
+use Prim.Native.Nat.{ℕ}
+use mathlib.Core.List.{List, [], _∷_}
+use Rattle.numbers.specs.Answers.{Outcome, gives, refuses, Read}
+use Rattle.engine.specs.declared.Event.{Event}
+use Rattle.engine.specs.declared.ReadRefusal.{ReadRefusal}
+use Rattle.engine.specs.declared.ReadRefusal.the-variants.{MissingByte, BadNumber, UnknownKind, FieldTooLarge}
+use Rattle.engine.specs.declared.FieldRead.{FieldRead}
+use Rattle.engine.specs.declared.FieldRead.the-variants.{Field, Refused as fieldRefused}
+use Rattle.engine.specs.declared.FieldsRead.{FieldsRead}
+use Rattle.engine.specs.declared.FieldsRead.the-variants.{End as fieldsEnd, Refused as fieldsRefused}
+use Rattle.engine.specs.declared.RecordRead.{RecordRead}
+use Rattle.engine.specs.declared.RecordRead.the-variants.{Record, Refused}
+use Rattle.engine.specs.declared.RecordWrite.{RecordWrite}
+use Rattle.engine.specs.declared.RecordWrite.the-variants.{End, NoRoom}
+
+abbrev pub numberOf : ReadRefusal → ℕ
+numberOf MissingByte = 9
+numberOf BadNumber = 10
+numberOf UnknownKind = 11
+numberOf FieldTooLarge = 12
+
+abbrev pub outcomeOfRecordRead : RecordRead → Outcome (Read Event)
+outcomeOfRecordRead (Record event end) = gives (record { value = event; end = end })
+outcomeOfRecordRead (Refused r) = refuses (numberOf r)
+
+abbrev pub outcomeOfRecordWrite : RecordWrite → Outcome ℕ
+outcomeOfRecordWrite (End end) = gives end
+outcomeOfRecordWrite NoRoom = refuses 13
+
+-- a single field, and the fields xs that were read
+abbrev pub outcomeOfField : FieldRead → Outcome (Read (List ℕ))
+outcomeOfField (Field x end) = gives (record { value = x ∷ []; end = end })
+outcomeOfField (fieldRefused r) = refuses (numberOf r)
+
+abbrev pub outcomeOfFields : FieldsRead → List ℕ → Outcome (Read (List ℕ))
+outcomeOfFields (fieldsEnd end) xs = gives (record { value = xs; end = end })
+outcomeOfFields (fieldsRefused r) xs = refuses (numberOf r)
+
+-- "these give 0 on refusal (3; 9 to 12), else the price, or the record's byte count; the check reads at offset 0"
+abbrev pub endOrZero : {A : Type 0} → Outcome (Read A) → ℕ
+endOrZero (gives r) = r.end
+endOrZero (refuses n) = 0
+
+abbrev pub valueOrZero : Outcome ℕ → ℕ
+valueOrZero (gives x) = x
+valueOrZero (refuses n) = 0
