@@ -33,7 +33,10 @@ fn read_field(bytes: &[u8], at: usize) -> FieldRead
             if value > HIGHEST_FIELD {
                 return FieldRead::Refused(ReadRefusal::FieldTooLarge);
             }
-            FieldRead::Field { value: value as u32, end }
+            FieldRead::Field {
+                value: value as u32,
+                end,
+            }
         }
     }
 }
@@ -81,7 +84,10 @@ fn read_single(bytes: &[u8], at: usize, kind: u64) -> RecordRead
 {
     match read_field(bytes, at) {
         FieldRead::Refused(refusal) => RecordRead::Refused(refusal),
-        FieldRead::Field { value, end } => RecordRead::Record { event: single_event(kind, value), end },
+        FieldRead::Field { value, end } => RecordRead::Record {
+            event: single_event(kind, value),
+            end,
+        },
     }
 }
 
@@ -102,7 +108,10 @@ fn read_entry(bytes: &[u8], at: usize) -> RecordRead
                 life: x[5],
                 slide: x[6],
             };
-            RecordRead::Record { event: Event::Entry(entry), end }
+            RecordRead::Record {
+                event: Event::Entry(entry),
+                end,
+            }
         }
     }
 }

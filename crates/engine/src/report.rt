@@ -14,7 +14,14 @@ pub fn write_accepted(bytes: &mut [u8], at: usize, id: u32, stamp: u32, price: u
     write::put_numbers(bytes, at, &numbers)
 }
 
-pub fn write_executed(bytes: &mut [u8], at: usize, buyer: u32, seller: u32, price: u32, shares: u32) -> usize
+pub fn write_executed(
+    bytes: &mut [u8],
+    at: usize,
+    buyer: u32,
+    seller: u32,
+    price: u32,
+    shares: u32,
+) -> usize
     requires { ⌜ at + length (reportBytes (executed (record { buyer = buyer; seller = seller; price = price; shares = shares }))) ≤ length (now bytes) ⌝ }
     ensures { λ r. ⌜ Put (reportBytes (executed (record { buyer = buyer; seller = seller; price = price; shares = shares }))) at (now (bytes .entry)) r (now (bytes .exit)) ⌝ }
 {

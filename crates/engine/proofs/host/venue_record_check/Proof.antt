@@ -1,0 +1,25 @@
+-- The end of the record that was read, and 0 for a refusal. Assumes nothing.
+use mathlib.Core.Path.{_≡_, sym, ap, _∙_}
+use Rattle.engine.specs.RecordAnswers.{outcomeOfRecordRead, endOrZero}
+use borrow.Author.Needs.{needs}
+use Rattle.engine.proofs.host.venue_record_check.Statement.{statement}
+use Rattle.engine.proofs.host.venue_record_check.Tie as tie
+
+read-record-requires : tie.Need-read-record-requires
+read-record-requires c κs = search needs
+
+enum-known-refusal : tie.Need-enum-known-refusal
+enum-known-refusal c = search needs
+
+enum-known-event : tie.Need-enum-known-event
+enum-known-event c = search needs
+
+returns : tie.Need-returns
+returns c = ap endOrZero (sym (ap outcomeOfRecordRead (c .before .refusal .given .1)) ∙ c .before .before .before .read-record .ensures)
+
+returns-2 : tie.Need-returns-2
+returns-2 c = ap endOrZero (sym (ap outcomeOfRecordRead (c .before .event .given .1)) ∙ c .before .before .before .read-record .ensures)
+
+pub venue-record-check-spec : {M : Type 1} → statement M
+venue-record-check-spec =
+    tie.close (tie.spec read-record-requires enum-known-refusal enum-known-event returns returns-2)

@@ -1,0 +1,41 @@
+-- The kind is judged by the count of its fields. Assumes nothing.
+use native.Mathlib.Omega.{arith}
+use borrow.Author.Tests.{ne-eqb, le-leb, lt-leb}
+use Rattle.numbers.specs.Tests.{pick}
+use Rattle.engine.specs.Records.{recordFields}
+use borrow.Author.Needs.{needs}
+use Rattle.engine.proofs.record.read_event.Statement.{statement}
+use Rattle.engine.proofs.record.read_event.Tie as tie
+
+read-entry-requires : tie.Need-read-entry-requires
+read-entry-requires c κs = search needs
+
+returns : tie.Need-returns
+unfolding recordFields pick
+returns c = rw (c .before .if1 .taken) (c .read-entry .ensures)
+
+returns-2 : tie.Need-returns-2
+unfolding recordFields pick
+returns-2 c =
+    let k = c .before .before .before .args .kind in
+    rw (ne-eqb k 1 (c .before .if1 .left), lt-leb 2 k (c .if2 .taken))
+
+returns-3 : tie.Need-returns-3
+unfolding recordFields pick
+returns-3 c =
+    let k = c .before .before .before .before .args .kind in
+    rw (ne-eqb k 1 (c .before .before .if1 .left), le-leb 2 k (c .before .if2 .left), lt-leb k 5 (c .if3 .taken))
+
+read-single-requires : tie.Need-read-single-requires
+read-single-requires c κs = search needs
+
+returns-4 : tie.Need-returns-4
+unfolding recordFields pick
+returns-4 c =
+    let k = c .before .before .before .before .before .args .kind in
+    rw (ne-eqb k 1 (c .before .before .before .if1 .left), le-leb 2 k (c .before .before .if2 .left), le-leb k 5 (c .before .if3 .left)) (c .read-single .ensures)
+
+pub read-event-spec : {M : Type 1} → statement M
+read-event-spec =
+    tie.close
+    (tie.spec read-entry-requires returns returns-2 returns-3 read-single-requires returns-4)
