@@ -1,13 +1,13 @@
 -- Laws of what each step leaves in the words, and of one step after another. Assumes nothing.
-use Prim.Native.Nat.{ℕ, zero, suc, _+_, _-_, _*_, _≤_, _<_}
+use Prim.Native.Nat.{ℕ, suc, _+_, _-_, _*_, _≤_, _<_}
 use native.Mathlib.Omega.{arith}
 use native.Mathlib.Numerals.{add-one}
-use mathlib.Core.Path.{_≡_, refl, sym, ap, ap₂, _∙_, subst}
-use mathlib.Core.List.{List, [], _∷_}
+use mathlib.Core.Path.{_≡_, refl, sym, ap, _∙_, subst}
+use mathlib.Core.List.{List, []}
 use lib.ListN.{length, getD, set, length-set}
 use lib.Seq.{getD-set-same, getD-set-other}
 use Rattle.book.specs.declared.Order.{Order}
-use Rattle.book.specs.Words.{venueWords, tabulate, word, orderAt, resting, Book, Holds, HeaderSet}
+use Rattle.book.specs.Words.{venueWords, word, orderAt, resting, Book, Holds, HeaderSet}
 use Rattle.book.specs.WordSteps.{Stored, ShiftedDown, ShiftedUp}
 use Rattle.book.specs.Positions.{removeAt, insertAt}
 use Rattle.book.proofs.TabulateLaws.{by-order, tabulate-ext, set-tabulate, remove-tabulate, insert-tabulate}

@@ -4,9 +4,9 @@ use native.Mathlib.Nat.{le-of-suc-le-suc, not-suc-le-zero}
 use native.Mathlib.Omega.{arith}
 use mathlib.Core.Path.{_≡_, refl, sym, ap, _∙_, subst}
 use mathlib.Core.Bool.{Bool, true, false, not}
-use mathlib.Core.Option.{Option, none, some}
+use mathlib.Core.Option.{none, some}
 use mathlib.Core.List.{List, [], _∷_}
-use lib.Dec.{T, ltb, eqb, lt→ltb, ltb→lt, not-T}
+use lib.Dec.{T, ltb, lt→ltb, ltb→lt, not-T}
 use lib.ListN.{length, getD}
 use Rattle.numbers.specs.Tests.{pick}
 use Rattle.numbers.proofs.TestLaws.{by-test, pick-yes, pick-no, ne→T, tests}

@@ -13,7 +13,7 @@ use Rattle.numbers.specs.Tests.{pick}
 use Rattle.book.specs.declared.Order.{Order}
 use Rattle.book.specs.declared.Position.{Position}
 use Rattle.book.specs.declared.Position.the-variants.{At, Absent}
-use Rattle.book.specs.Orders.{reduced, without, insert}
+use Rattle.book.specs.Orders.{reduced, without}
 use Rattle.book.specs.Matching.{reaches, better, betterOf, bestFrom, best, afterTrade}
 use Rattle.book.specs.Words.{emptyOrder}
 use Rattle.book.specs.Positions.{removeAt, insertAt, orderIn, Below, considered}

@@ -14,3 +14,5 @@ pub mod ReachedLaws
 pub mod BoundLaws
 pub mod RecordLaws
 pub mod ReadingLaws
+pub mod RecordCalls
+pub mod RecordExamples

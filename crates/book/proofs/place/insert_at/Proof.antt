@@ -1,5 +1,5 @@
 -- `insert_at` puts one order in. Assumes nothing.
-use mathlib.Core.Path.{_≡_, refl, sym, ap, ap₂, _∙_, subst}
+use mathlib.Core.Path.{_∙_}
 use lib.ListN.{length-set}
 use Rattle.book.proofs.HoldsLaws.{inserted}
 use borrow.Author.Needs.{needs}

@@ -1,7 +1,7 @@
 -- The loop of `shift_down`: the words up to j are moved. Assumes nothing.
 use borrow.Author.Needs.{needs}
-use Prim.Native.Nat.{ℕ, suc, _+_, _*_, _-_, _/_, _≤_, _<_}
-use mathlib.Core.Path.{_≡_, refl, sym, ap, ap₂, _∙_, subst}
+use Prim.Native.Nat.{_-_, _≤_}
+use mathlib.Core.Path.{_≡_}
 use native.Mathlib.Omega.{arith}
 use Rattle.book.specs.WordSteps.{ShiftedDown}
 use Rattle.book.proofs.WordStepLaws.{shifted-down-none, shifted-down-more}

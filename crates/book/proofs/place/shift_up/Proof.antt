@@ -1,7 +1,7 @@
 -- The loop of `shift_up`: the words from j on are moved. Assumes nothing.
 use borrow.Author.Needs.{needs}
-use Prim.Native.Nat.{ℕ, suc, _+_, _*_, _-_, _/_, _≤_, _<_}
-use mathlib.Core.Path.{_≡_, refl, sym, ap, ap₂, _∙_, subst}
+use Prim.Native.Nat.{ℕ, _-_, _≤_}
+use mathlib.Core.Path.{_≡_, subst}
 use native.Mathlib.Omega.{arith}
 use Rattle.book.specs.WordSteps.{ShiftedUp}
 use Rattle.book.proofs.WordStepLaws.{shifted-up-none, shifted-up-more}

@@ -1,6 +1,6 @@
 -- `better` by price, then displayed, then stamp. Assumes nothing.
-use mathlib.Core.Path.{_≡_, refl, sym, ap, ap₂, _∙_, subst}
-use borrow.Author.Tests.{lt-ltb, le-ltb, le-leb, lt-leb, eq-eqb, ne-eqb}
+use mathlib.Core.Path.{sym, _∙_}
+use borrow.Author.Tests.{lt-ltb, le-ltb, eq-eqb, ne-eqb}
 use Rattle.book.specs.Matching.{better}
 use borrow.Author.Needs.{needs}
 use Rattle.book.proofs.priority.better.Statement.{statement}

@@ -1,5 +1,5 @@
 -- `better_price` by the side. Assumes nothing.
-use borrow.Author.Tests.{lt-ltb, le-ltb, le-leb, lt-leb, eq-eqb, ne-eqb}
+use borrow.Author.Tests.{eq-eqb, ne-eqb}
 use Rattle.numbers.specs.Tests.{pick}
 use Rattle.book.proofs.priority.better_price.Statement.{statement}
 use Rattle.book.proofs.priority.better_price.Tie as tie

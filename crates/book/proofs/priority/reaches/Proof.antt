@@ -1,5 +1,5 @@
 -- `reaches` by the two sides. Assumes nothing.
-use borrow.Author.Tests.{lt-ltb, le-ltb, le-leb, lt-leb, eq-eqb, ne-eqb}
+use borrow.Author.Tests.{eq-eqb, ne-eqb}
 use Rattle.numbers.specs.Tests.{pick}
 use Rattle.book.specs.Matching.{reaches}
 use Rattle.book.proofs.priority.reaches.Statement.{statement}

@@ -1,9 +1,9 @@
 -- `first_above`: the order at the rank of an id is the first above it. Assumes nothing.
-use Prim.Native.Nat.{ℕ, suc, _+_, _*_, _-_, _/_, _≤_, _<_}
-use mathlib.Core.Path.{_≡_, refl, sym, ap, _∙_, subst}
+use Prim.Native.Nat.{ℕ}
+use mathlib.Core.Path.{sym, ap, _∙_}
 use native.Mathlib.Omega.{arith}
 use mathlib.Core.Option.{some}
-use lib.ListN.{length, getD}
+use lib.ListN.{getD}
 use Rattle.book.specs.Words.{resting, emptyOrder}
 use Rattle.book.proofs.RankLaws.{firstAbove-at, firstAbove-none}
 use borrow.Author.Needs.{needs}

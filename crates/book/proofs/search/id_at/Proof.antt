@@ -1,5 +1,5 @@
 -- `id_at` gives the id of the order at a position. Assumes nothing.
-use mathlib.Core.Path.{_≡_, refl, sym, ap, _∙_, subst}
+use mathlib.Core.Path.{sym, ap, _∙_}
 use Rattle.book.specs.declared.Order.{Order}
 use Rattle.book.proofs.WordLaws.{resting-at}
 use borrow.Author.Needs.{needs}

@@ -1,8 +1,7 @@
 -- The loop of `rank`: nothing below low is above the id, all from high on are. Assumes nothing.
 use borrow.Author.Needs.{needs}
-use Prim.Native.Nat.{ℕ, _+_, _*_, _-_, _/_, _≤_, _<_}
-use mathlib.Core.Path.{_≡_, refl, sym, ap, _∙_, subst}
-use native.Mathlib.Omega.{arith}
+use Prim.Native.Nat.{ℕ, _+_, _-_, _/_, _≤_, _<_}
+use mathlib.Core.Path.{subst}
 use Rattle.book.specs.Words.{resting}
 use Rattle.book.proofs.RisingLaws.{idsRise-rises}
 use Rattle.book.proofs.RankLaws.{RankBetween, between-start, between-low, between-high, between-end}

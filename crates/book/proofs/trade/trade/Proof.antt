@@ -1,6 +1,6 @@
 -- A trade of all shares takes the order out, any other leaves it with the rest. Assumes nothing.
-use Prim.Native.Nat.{ℕ, suc, _+_, _*_, _-_, _/_, _≤_, _<_}
-use mathlib.Core.Path.{_≡_, refl, sym, ap, ap₂, _∙_, subst}
+use Prim.Native.Nat.{_≤_, _<_}
+use mathlib.Core.Path.{ap, _∙_, subst}
 use lib.ListN.{set}
 use Rattle.book.specs.declared.Order.{Order}
 use Rattle.book.specs.Orders.{reduced}

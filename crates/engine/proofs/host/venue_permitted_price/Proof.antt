@@ -1,5 +1,5 @@
 -- The price of the answer, and 0 for the refusal. Assumes nothing.
-use mathlib.Core.Path.{_≡_, sym, ap, _∙_}
+use mathlib.Core.Path.{sym, ap, _∙_}
 use Rattle.prices.specs.Prices.{outcomeOfPrice}
 use Rattle.engine.specs.RecordAnswers.{valueOrZero}
 use borrow.Author.Needs.{needs}

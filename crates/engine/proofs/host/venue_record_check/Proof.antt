@@ -1,5 +1,5 @@
 -- The end of the record that was read, and 0 for a refusal. Assumes nothing.
-use mathlib.Core.Path.{_≡_, sym, ap, _∙_}
+use mathlib.Core.Path.{sym, ap, _∙_}
 use Rattle.engine.specs.RecordAnswers.{outcomeOfRecordRead, endOrZero}
 use borrow.Author.Needs.{needs}
 use Rattle.engine.proofs.host.venue_record_check.Statement.{statement}

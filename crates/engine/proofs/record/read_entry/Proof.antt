@@ -1,5 +1,5 @@
 -- The entry of the seven fields that were read, or their refusal. Assumes nothing.
-use mathlib.Core.Path.{_≡_, sym, ap, _∙_}
+use mathlib.Core.Path.{sym, ap, _∙_}
 use Rattle.numbers.specs.Tests.{pick}
 use Rattle.engine.specs.Records.{eventOf, eventFrom}
 use Rattle.engine.specs.RecordAnswers.{outcomeOfFields}

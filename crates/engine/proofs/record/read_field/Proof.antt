@@ -1,5 +1,5 @@
 -- The number at the offset is the field, unless it is above 32 bits. Assumes nothing.
-use mathlib.Core.Path.{_≡_, sym, ap, _∙_}
+use mathlib.Core.Path.{sym, ap, _∙_}
 use Rattle.numbers.specs.SevenBit.{outcomeOfRead}
 use Rattle.engine.proofs.ReadingLaws.{field-refused, field-above, field-given}
 use borrow.Author.Needs.{needs}

@@ -1,7 +1,7 @@
 -- The loop of `read_fields`: the fields so far, in front of what is still to be read, are all of them. Assumes nothing.
 use Prim.Native.Nat.{_-_}
 use native.Mathlib.Omega.{arith}
-use mathlib.Core.Path.{_≡_, sym, ap, _∙_}
+use mathlib.Core.Path.{sym, ap, _∙_}
 use lib.ListN.{length}
 use borrow.Author.Needs.{needs}
 use Rattle.engine.specs.RecordAnswers.{outcomeOfField}

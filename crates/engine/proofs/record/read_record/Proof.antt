@@ -1,5 +1,5 @@
 -- The number at the offset is the kind, and its event is what stands there. Assumes nothing.
-use mathlib.Core.Path.{_≡_, sym, ap, _∙_}
+use mathlib.Core.Path.{sym, ap, _∙_}
 use Rattle.numbers.specs.SevenBit.{outcomeOfRead}
 use Rattle.engine.specs.Records.{byKind, formAt, recordAt}
 use borrow.Author.Needs.{needs}

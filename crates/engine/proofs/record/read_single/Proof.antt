@@ -1,5 +1,5 @@
 -- The event of the field that was read, or its refusal. Assumes nothing.
-use mathlib.Core.Path.{_≡_, sym, ap, _∙_}
+use mathlib.Core.Path.{sym, ap, _∙_}
 use Rattle.engine.specs.Records.{eventFrom}
 use Rattle.engine.specs.RecordAnswers.{outcomeOfField}
 use borrow.Author.Needs.{needs}

@@ -1,7 +1,5 @@
 -- The loop of `put_numbers`: writing the numbers left from here on is writing all of them from the start. Assumes nothing.
 use Prim.Native.Nat.{_+_, _-_, _≤_}
-use native.Mathlib.Omega.{arith}
-use mathlib.Core.Path.{_≡_, subst}
 use lib.ListN.{length, getD, drop}
 use borrow.Author.Needs.{needs}
 use Rattle.numbers.specs.SevenBit.{bytesOf, bytesOfAll}
