@@ -1,0 +1,41 @@
+/* A host program in C: checks event records and asks for permitted prices.
+   Build and run, from the repository's root:
+   rt staticlib engine && cc -Wall -Wextra -Iinclude examples/host.c target/staticlib/libengine.a -o target/host && target/host */
+#include <inttypes.h>
+#include <stdio.h>
+#include <venue.h>
+
+static void check(const char *what, const uint8_t *bytes, size_t length)
+{
+    printf("record check, %s: %" PRIu64 "\n", what, venue_record_check(bytes, length));
+}
+
+static void price(const char *what, uint32_t bid)
+{
+    printf("permitted price, %s %" PRIu32 ": %" PRIu32 "\n", what, bid, venue_permitted_price(bid));
+}
+
+int main(void)
+{
+    /* bid 91,100; entry 1 2 90500 500 1 0 0 with two bytes behind it */
+    static const uint8_t bid[] = {0x03, 0xDC, 0xC7, 0x05};
+    static const uint8_t entry[] = {0x01, 0x01, 0x02, 0x84, 0xC3, 0x05, 0xF4, 0x03, 0x01, 0x00, 0x00, 0xFF, 0xFF};
+    static const uint8_t last_group_0[] = {0x03, 0x83, 0x00};
+    static const uint8_t kind_6[] = {0x06, 0x01};
+    static const uint8_t field_2_32[] = {0x02, 0x80, 0x80, 0x80, 0x80, 0x10};
+
+    check("bid 91100", bid, sizeof bid);
+    check("entry", entry, sizeof entry);
+    check("bid cut short", bid, sizeof bid - 1);
+    check("last group 0 after another", last_group_0, sizeof last_group_0);
+    check("kind 6", kind_6, sizeof kind_6);
+    check("a field of 2^32", field_2_32, sizeof field_2_32);
+    check("empty", bid, 0);
+    price("no bid", 0);
+    price("bid", 9999);
+    price("bid", 91100);
+    price("bid", 99999900);
+    price("not a bid", 91150);
+    price("not a bid", 100000000);
+    return 0;
+}
