@@ -5,7 +5,8 @@
 #include <stddef.h>
 #include <stdint.h>
 
-/* A byte slice as the calls take it: a pointer and a length. An empty slice has length 0; its pointer may be any but NULL. */
+/* A byte slice is a pointer and a length: `length` bytes stand there that nobody writes meanwhile. The pointer is never NULL, also where the
+   length is 0. */
 
 /* The byte count of the event record that stands at the front of the bytes; bytes behind it don't matter.
    0 on refusal: a byte is missing (9), a number is bad (10), the kind isn't 1 to 5 (11), or a field is above 4,294,967,295 (12). */

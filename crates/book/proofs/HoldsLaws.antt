@@ -47,7 +47,7 @@ module _ (w₁ : List ℕ) (m : ℕ) (long : venueWords ≤ length w₁) where
         long = omega (arith, length-set w₁ 0 m);
         few = omega (arith, resting-length (set w₁ 0 m), counted-at);
         flags =
-          λ i k l a b. subst (λ (x : ℕ). x ≤ 1) (sym (counted-kept (16 + i * 13 + k) (omega arith))) (f i k (omega (arith, resting-length (set w₁ 0 m), counted-at)) a b);
+            λ i k l a b. subst (λ (x : ℕ). x ≤ 1) (sym (counted-kept (16 + i * 13 + k) (omega arith))) (f i k (omega (arith, resting-length (set w₁ 0 m), counted-at)) a b);
       }
 
 pub cleared : (w : List ℕ) → venueWords ≤ length w → Holds w (set w 0 0) []
@@ -67,12 +67,12 @@ header-set w k x h₀ h b =
     let r : resting w′ ≡ resting w = resting-tabulate w′ (getD w 0 0) (resting w) (other 0 (λ e. omega arith)) (tabulate-ext (getD w 0 0) (orderAt w′) (orderAt w) (λ i hi. order-ext (word w′ i) (word w i) (λ q hq. other (16 + i * 13 + q) (λ e. omega arith))) ∙ resting-is w) in
     record {
       book =
-        record {
-          long = omega (arith, b .long, length-set w k x);
-          few = omega (arith, b .few, ap length r);
-          flags =
-            λ i q l a c. subst (λ (y : ℕ). y ≤ 1) (sym (other (16 + i * 13 + q) (λ e. omega arith))) (b .flags i q (omega (arith, ap length r)) a c);
-        };
+          record {
+            long = omega (arith, b .long, length-set w k x);
+            few = omega (arith, b .few, ap length r);
+            flags =
+                λ i q l a c. subst (λ (y : ℕ). y ≤ 1) (sym (other (16 + i * 13 + q) (λ e. omega arith))) (b .flags i q (omega (arith, ap length r)) a c);
+          };
       rests = r;
       is = refl;
     }
@@ -88,9 +88,9 @@ removed w w₁ i n from to e ef et b h c =
     let high : (j k : ℕ) → i ≤ j → j < last → k < 13 → word w₁ j k ≡ word w (suc j) k = λ j k hi hj hk. c .moved (16 + j * 13 + k) (omega arith) (omega arith) ∙ ap (λ (p : ℕ). getD w p 0) (omega arith) in
     record {
       book =
-        counted-book w₁ last long (omega (arith, b .few)) (λ j k l a z. by-order j i (λ hj. subst (λ (x : ℕ). x ≤ 1) (sym (low j k hj z)) (b .flags j k (omega arith) a z)) (λ hj. subst (λ (x : ℕ). x ≤ 1) (sym (high j k hj l z)) (b .flags (suc j) k (omega arith) a z)));
+          counted-book w₁ last long (omega (arith, b .few)) (λ j k l a z. by-order j i (λ hj. subst (λ (x : ℕ). x ≤ 1) (sym (low j k hj z)) (b .flags j k (omega arith) a z)) (λ hj. subst (λ (x : ℕ). x ≤ 1) (sym (high j k hj l z)) (b .flags (suc j) k (omega arith) a z)));
       rests =
-        resting-tabulate w′ last _ (counted-at w₁ last long) (remove-tabulate last (orderAt w) (orderAt w′) i (omega arith) (λ j hj. order-ext (word w′ j) (word w j) (λ k hk. kept (16 + j * 13 + k) (omega arith) ∙ low j k hj hk)) (λ j hi hj. order-ext (word w′ j) (word w (suc j)) (λ k hk. kept (16 + j * 13 + k) (omega arith) ∙ high j k hi hj hk)) ∙ ap (removeAt i) (resting-n w (suc last) (omega arith)));
+          resting-tabulate w′ last _ (counted-at w₁ last long) (remove-tabulate last (orderAt w) (orderAt w′) i (omega arith) (λ j hj. order-ext (word w′ j) (word w j) (λ k hk. kept (16 + j * 13 + k) (omega arith) ∙ low j k hj hk)) (λ j hi hj. order-ext (word w′ j) (word w (suc j)) (λ k hk. kept (16 + j * 13 + k) (omega arith) ∙ high j k hi hj hk)) ∙ ap (removeAt i) (resting-n w (suc last) (omega arith)));
       size = length-set w₁ 0 last ∙ c.size;
       header = λ j h₀ hj. kept j h₀ ∙ c .below j (omega arith);
       behind = λ j hj. kept j (omega arith) ∙ c .above j (omega (arith, b .few));
@@ -103,14 +103,14 @@ replaced w w′ i o b h c =
     let other : (j k : ℕ) → (j ≡ i → ⊥) → k < 13 → word w′ j k ≡ word w j k = λ j k ne hk. by-order j i (λ l. c .below (16 + j * 13 + k) (omega arith)) (λ l. c .above (16 + j * 13 + k) (let z : i < j = omega arith in omega arith)) in
     record {
       book =
-        record {
-          long = omega (arith, c .size, b .long);
-          few = omega (arith, b .few, resting-length w′, resting-length w);
-          flags =
-            λ j k l a z. by-order j i (λ q. subst (λ (x : ℕ). x ≤ 1) (sym (other j k (λ e. omega arith) z)) (b .flags j k (omega arith) a z)) (λ q. by-order i j (λ q₂. subst (λ (x : ℕ). x ≤ 1) (sym (other j k (λ e. omega arith) z)) (b .flags j k (omega (arith, resting-length w′, resting-length w)) a z)) (λ q₂. subst (λ (y : ℕ). word w′ y k ≤ 1) {x = i} (omega arith) (c .flags k a z)));
-        };
+          record {
+            long = omega (arith, c .size, b .long);
+            few = omega (arith, b .few, resting-length w′, resting-length w);
+            flags =
+                λ j k l a z. by-order j i (λ q. subst (λ (x : ℕ). x ≤ 1) (sym (other j k (λ e. omega arith) z)) (b .flags j k (omega arith) a z)) (λ q. by-order i j (λ q₂. subst (λ (x : ℕ). x ≤ 1) (sym (other j k (λ e. omega arith) z)) (b .flags j k (omega (arith, resting-length w′, resting-length w)) a z)) (λ q₂. subst (λ (y : ℕ). word w′ y k ≤ 1) {x = i} (omega arith) (c .flags k a z)));
+          };
       rests =
-        resting-tabulate w′ (getD w 0 0) _ n (set-tabulate (getD w 0 0) (orderAt w) (orderAt w′) i o (omega (arith, resting-length w)) (c .new) (λ j hj ne. order-ext (word w′ j) (word w j) (λ k hk. other j k ne hk)) ∙ ap (λ (l : List Order). set l i o) (resting-is w));
+          resting-tabulate w′ (getD w 0 0) _ n (set-tabulate (getD w 0 0) (orderAt w) (orderAt w′) i o (omega (arith, resting-length w)) (c .new) (λ j hj ne. order-ext (word w′ j) (word w j) (λ k hk. other j k ne hk)) ∙ ap (λ (l : List Order). set l i o) (resting-is w));
       size = c.size;
       header = λ j h₀ hj. c .below j (omega arith);
       behind = λ j hj. c .above j (omega (arith, b .few));
@@ -126,9 +126,9 @@ inserted w w₁ w₂ o i n from to e ef et hi b h r c =
     let high : (j k : ℕ) → i ≤ j → j < n → k < 13 → word w₂ (suc j) k ≡ word w j k = λ j k hj hn hk. c .above (16 + suc j * 13 + k) (omega arith) ∙ ap (λ (p : ℕ). getD w₁ p 0) (omega arith) ∙ r .moved (16 + j * 13 + k) (omega arith) (omega arith) in
     record {
       book =
-        counted-book w₂ (n + 1) long (omega arith) (λ j k l a z. by-order j i (λ hj. subst (λ (x : ℕ). x ≤ 1) (sym (low j k hj z)) (b .flags j k (omega arith) a z)) (λ hj. by-order i j (λ hk. subst (λ (y : ℕ). word w₂ y k ≤ 1) {x = suc (j - 1)} (omega arith) (subst (λ (x : ℕ). x ≤ 1) (sym (high (j - 1) k (omega arith) (omega arith) z)) (b .flags (j - 1) k (omega arith) a z))) (λ hk. subst (λ (y : ℕ). word w₂ y k ≤ 1) {x = i} (omega arith) (c .flags k a z))));
+          counted-book w₂ (n + 1) long (omega arith) (λ j k l a z. by-order j i (λ hj. subst (λ (x : ℕ). x ≤ 1) (sym (low j k hj z)) (b .flags j k (omega arith) a z)) (λ hj. by-order i j (λ hk. subst (λ (y : ℕ). word w₂ y k ≤ 1) {x = suc (j - 1)} (omega arith) (subst (λ (x : ℕ). x ≤ 1) (sym (high (j - 1) k (omega arith) (omega arith) z)) (b .flags (j - 1) k (omega arith) a z))) (λ hk. subst (λ (y : ℕ). word w₂ y k ≤ 1) {x = i} (omega arith) (c .flags k a z))));
       rests =
-        resting-tabulate w′ (suc n) _ (counted-at w₂ (n + 1) long ∙ add-one n) (insert-tabulate n (orderAt w) (orderAt w′) i o (omega arith) (λ j hj. order-ext (word w′ j) (word w j) (λ k hk. kept (16 + j * 13 + k) (omega arith) ∙ low j k hj hk)) (order-ext (word w′ i) (word w₂ i) (λ k hk. kept (16 + i * 13 + k) (omega arith)) ∙ c.new) (λ j hj hn. order-ext (word w′ (suc j)) (word w j) (λ k hk. kept (16 + suc j * 13 + k) (omega arith) ∙ high j k hj hn hk)) ∙ ap (insertAt i o) (resting-n w n e));
+          resting-tabulate w′ (suc n) _ (counted-at w₂ (n + 1) long ∙ add-one n) (insert-tabulate n (orderAt w) (orderAt w′) i o (omega arith) (λ j hj. order-ext (word w′ j) (word w j) (λ k hk. kept (16 + j * 13 + k) (omega arith) ∙ low j k hj hk)) (order-ext (word w′ i) (word w₂ i) (λ k hk. kept (16 + i * 13 + k) (omega arith)) ∙ c.new) (λ j hj hn. order-ext (word w′ (suc j)) (word w j) (λ k hk. kept (16 + suc j * 13 + k) (omega arith) ∙ high j k hj hn hk)) ∙ ap (insertAt i o) (resting-n w n e));
       size = length-set w₂ 0 (n + 1) ∙ c.size ∙ r.size;
       header = λ j h₀ hj. kept j h₀ ∙ c .below j (omega arith) ∙ r .below j (omega arith);
       behind = λ j hj. kept j (omega arith) ∙ c .above j (omega arith) ∙ r .above j (omega arith);

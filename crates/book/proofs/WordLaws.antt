@@ -71,26 +71,26 @@ pub row-is : (o : Order) (a u c : ℕ) → a ≡ flagWord (o .adjusted) → u �
 row-is o a u c p q r =
     record {
       is =
-        λ i. record {
-          id = o.id;
-          mark = o.mark;
-          limit = o.limit;
-          shares = o.shares;
-          show = o.show;
-          life = o.life;
-          slide = o.slide;
-          stamp = o.stamp;
-          price = o.price;
-          «entry_bid» = o .«entry_bid»;
-          adjusted = flag-back (o .adjusted) a p i;
-          used = flag-back (o .used) u q i;
-          clear = flag-back (o .clear) c r i;
-        };
+          λ i. record {
+            id = o.id;
+            mark = o.mark;
+            limit = o.limit;
+            shares = o.shares;
+            show = o.show;
+            life = o.life;
+            slide = o.slide;
+            stamp = o.stamp;
+            price = o.price;
+            «entry_bid» = o .«entry_bid»;
+            adjusted = flag-back (o .adjusted) a p i;
+            used = flag-back (o .used) u q i;
+            clear = flag-back (o .clear) c r i;
+          };
       flags =
-        at-flags (λ (k : ℕ). getD (o.id ∷ o.mark ∷ o.limit ∷ o.shares ∷ o.show ∷ o.life ∷ o.slide ∷ o.stamp ∷ o.price ∷ o .«entry_bid» ∷ a ∷ u ∷ c ∷ []) k 0 ≤ 1)
-        (flag-small (o .adjusted) a p)
-        (flag-small (o .used) u q)
-        (flag-small (o .clear) c r);
+          at-flags (λ (k : ℕ). getD (o.id ∷ o.mark ∷ o.limit ∷ o.shares ∷ o.show ∷ o.life ∷ o.slide ∷ o.stamp ∷ o.price ∷ o .«entry_bid» ∷ a ∷ u ∷ c ∷ []) k 0 ≤ 1)
+          (flag-small (o .adjusted) a p)
+          (flag-small (o .used) u q)
+          (flag-small (o .clear) c r);
     }
 
 -- the layout test

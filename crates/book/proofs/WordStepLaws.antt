@@ -22,7 +22,7 @@ copied-more w₀ w at row k c h =
     record {
       size = length-set w (at + k) v ∙ c.size;
       new =
-        λ q hq. by-order q k (λ l. getD-set-other w (at + k) (at + q) v 0 (λ e. omega arith) ∙ c .new q l) (λ l. let e : q ≡ k = omega arith in rw e (getD-set-same w (at + k) v 0 h));
+          λ q hq. by-order q k (λ l. getD-set-other w (at + k) (at + q) v 0 (λ e. omega arith) ∙ c .new q l) (λ l. let e : q ≡ k = omega arith in rw e (getD-set-same w (at + k) v 0 h));
       below = λ j hj. getD-set-other w (at + k) j v 0 (λ e. omega arith) ∙ c .below j hj;
       above = λ j hj. getD-set-other w (at + k) j v 0 (λ e. omega arith) ∙ c .above j (omega arith);
     }
@@ -48,7 +48,7 @@ shifted-down-more w₀ w from j c f h =
       size = length-set w j v ∙ c.size;
       below = λ q hq. getD-set-other w j q v 0 (λ e. omega arith) ∙ c .below q hq;
       moved =
-        λ q a b. by-order q j (λ l. getD-set-other w j q v 0 (λ e. omega arith) ∙ c .moved q a l) (λ l. let e : q ≡ j = omega arith in rw e (getD-set-same w j v 0 h ∙ c .above (j + 13) (omega arith)));
+          λ q a b. by-order q j (λ l. getD-set-other w j q v 0 (λ e. omega arith) ∙ c .moved q a l) (λ l. let e : q ≡ j = omega arith in rw e (getD-set-same w j v 0 h ∙ c .above (j + 13) (omega arith)));
       above = λ q hq. getD-set-other w j q v 0 (λ e. omega arith) ∙ c .above q (omega arith);
     }
 
@@ -63,6 +63,6 @@ shifted-up-more w₀ w j to c f h =
       size = length-set w (j + 13) v ∙ c.size;
       below = λ q hq. getD-set-other w (j + 13) q v 0 (λ e. omega arith) ∙ c .below q (omega arith);
       moved =
-        λ q a b. by-order j q (λ l. getD-set-other w (j + 13) (q + 13) v 0 (λ e. omega arith) ∙ c .moved q l b) (λ l. let e : q ≡ j = omega arith in rw e (getD-set-same w (j + 13) v 0 h ∙ c .below j (omega arith)));
+          λ q a b. by-order j q (λ l. getD-set-other w (j + 13) (q + 13) v 0 (λ e. omega arith) ∙ c .moved q l b) (λ l. let e : q ≡ j = omega arith in rw e (getD-set-same w (j + 13) v 0 h ∙ c .below j (omega arith)));
       above = λ q hq. getD-set-other w (j + 13) q v 0 (λ e. omega arith) ∙ c .above q hq;
     }

@@ -9,6 +9,7 @@ ghost use Rattle.book.specs.WordSteps.{Row, Copied, Stored};
 
 // The header words, and the words of an order.
 const HEADER: usize = 16;
+
 const WIDTH: usize = 13;
 
 pub fn wide(x: u32) -> usize

@@ -1,23 +1,24 @@
 -- Reading and the bytes of event records and of reports: each undoes the other. Assumes nothing.
-use Prim.Native.Nat.{ℕ, zero, suc, _^_, _≤_, _<_}
+use Prim.Native.Nat.{ℕ, zero, suc, _+_, _^_, _≤_, _<_}
 use native.Mathlib.Omega.{arith}
 use mathlib.Core.Path.{_≡_, refl, sym, ap, _∙_, subst}
 use mathlib.Core.List.{List, [], _∷_}
 use mathlib.Core.Option.{Option, none, some}
-use lib.Dec.{leb, leb→le}
-use lib.ListN.{length, getD}
-use borrow.Author.Tests.{le-leb, lt-leb, ne-eqb}
+use lib.Dec.{leb, eqb, leb→le, eqb→eq}
+use lib.ListN.{length, getD, length-append}
+use borrow.Author.Tests.{le-leb, lt-leb, eq-eqb, ne-eqb}
 use Rattle.numbers.specs.Tests.{pick, All}
 use Rattle.numbers.specs.Answers.{Outcome, gives, refuses, Read}
 use Rattle.numbers.specs.SevenBit.{bytesOf, bytesOfAll, numberAt, Stands}
 use Rattle.numbers.proofs.TestLaws.{by-test}
+use Rattle.numbers.proofs.ByteLaws.{length-positive}
 use Rattle.numbers.proofs.PlaceLaws.{stands-none, stands-then, stands-front, stands-behind}
 use Rattle.numbers.proofs.ReadLaws.{read-there, NumberStands, read-unique}
 use Rattle.engine.specs.declared.Event.{Event}
 use Rattle.engine.specs.declared.Event.the-variants.{Entry as entry, Cancel as cancel, Bid as bid, Tape as tape, DayEnd as dayEnd}
 use Rattle.engine.specs.Reports.{Report, accepted, executed, cancelled, repriced, restrictionStarts, dayEnded}
-use Rattle.engine.specs.Records.{recordNumbers, reportNumbers, recordBytes, reportBytes, highestField, byField, onField, fieldsAt, Form, onKind, byCount, byKind, formAt, recordFields, reportFields, eventOf, reportOf, readAs, recordAt, reportAt}
-use Rattle.engine.specs.RoundTrips.{Word, Byte, StandsAs, ReadsOnly, RecordsReadBack, RecordsReadOnly, ReportsReadBack, ReportsReadOnly}
+use Rattle.engine.specs.Records.{recordNumbers, reportNumbers, recordBytes, reportBytes, reportsBytes, highestField, byField, onField, fieldsAt, Form, onKind, byCount, byKind, formAt, recordFields, reportFields, eventOf, reportOf, readAs, recordAt, reportAt, onReport, byReport, reportsFrom, reportsUpTo}
+use Rattle.engine.specs.RoundTrips.{Word, Byte, StandsAs, ReadsOnly, RecordsReadBack, RecordsReadOnly, ReportsReadBack, ReportsReadOnly, AllReportsReadBack, AllReportsReadOnly}
 
 -- Fields
 
@@ -108,7 +109,7 @@ module _ (count : ℕ → Option ℕ) (bytes : List ℕ) (all : All Byte bytes) 
   unfolding formAt
   form-unique at = number-form (numberAt bytes at) refl
 
-no-count : {n : ℕ} → none ≡ some n → ⊥
+no-count : {A : Type 0} {x : A} → none ≡ some x → ⊥
 no-count e = let z : _≡_ {A = ℕ} 0 1 = cc in omega arith
 
 -- A list of known length, element by element
@@ -208,3 +209,81 @@ report-read-back bytes at r s = go (r .value) (s .words) (s .stands)
 pub report-unique : ReportsReadOnly
 unfolding reportBytes reportAt
 report-unique = reads-only reportNumbers reportBytes reportFields reportOf (λ x. refl) report-numbers
+
+-- Reports one after another
+
+kind-size : (k : ℕ) (xs : List ℕ) → 1 ≤ length (bytesOfAll (k ∷ xs))
+unfolding bytesOfAll
+kind-size k xs = omega (arith, length-positive k, length-append (bytesOf k) (bytesOfAll xs))
+
+-- a report takes a byte or more
+report-size : (r : Report) → 1 ≤ length (reportBytes r)
+unfolding reportBytes
+report-size (accepted i s p) = kind-size 1 _
+report-size (executed x) = kind-size 2 _
+report-size (cancelled i q cause) = kind-size 3 _
+report-size (repriced i p s) = kind-size 4 _
+report-size restrictionStarts = kind-size 5 _
+report-size (dayEnded phase) = kind-size 6 _
+
+-- so there are no more reports than bytes
+reports-count : (rs : List Report) → length rs ≤ length (reportsBytes rs)
+unfolding reportsBytes
+reports-count [] = omega arith
+reports-count (r ∷ rs) = omega (arith, report-size r, reports-count rs, length-append (reportBytes r) (reportsBytes rs))
+
+abbrev ReportWords : Report → Type 0
+ReportWords r = All Word (reportNumbers r)
+
+reports-there : {bytes : List ℕ} {at e : ℕ} (n : ℕ) (rs : List Report) → length rs ≤ n → All ReportWords rs → Stands bytes at (reportsBytes rs) e → reportsFrom n bytes e at ≡ some rs
+unfolding reportsFrom reportsBytes pick
+reports-there {bytes} {at} {e} zero [] l h s = let z : at ≡ e = omega (arith, s .ends) in rw (eq-eqb at e z)
+reports-there {bytes} {at} {e} (suc n) [] l h s = let z : at ≡ e = omega (arith, s .ends) in rw (eq-eqb at e z)
+reports-there zero (r ∷ rs) l h s = absurd (omega arith)
+reports-there {bytes} {at} {e} (suc n) (r ∷ rs) l h s =
+    let m = at + length (reportBytes r) in
+    let front : Stands bytes at (reportBytes r) m = stands-front (reportBytes r) (reportsBytes rs) s in
+    let t : Stands bytes m (reportsBytes rs) e = stands-behind (reportBytes r) (reportsBytes rs) s in
+    rw (ne-eqb at e (λ q. omega (arith, report-size r, t .ends)), report-read-back bytes at (record { value = r; end = m }) (record { words = h .0; stands = front }), reports-there n rs (omega arith) (h .1) t)
+
+pub all-reports-read-back : AllReportsReadBack
+unfolding reportsUpTo
+all-reports-read-back bytes count rs h = reports-there count rs (omega (arith, reports-count rs, h .1 .ends)) (h .0) (h .1)
+
+-- what was read stands there
+module _ (bytes : List ℕ) (all : All Byte bytes) (end : ℕ) where
+  abbrev Known : ℕ → List Report → Type 0
+  Known at rs = All ReportWords rs × Stands bytes at (reportsBytes rs) end
+
+  abbrev AllKnown : ℕ → Option (List Report) → Type 0
+  AllKnown at o = (rs : List Report) → o ≡ some rs → Known at rs
+
+  none-left : {at : ℕ} → at ≡ end → at ≤ length bytes → AllKnown at (some [])
+  unfolding reportsBytes
+  none-left {at} e h rs s =
+      let z : [] ≡ rs = cc in
+      subst (Known at) z (tt, subst (λ m. Stands bytes at [] m) e (stands-none bytes at h))
+
+  in-front : {at : ℕ} {r : Read Report} (o : Option (List Report)) → StandsAs reportNumbers reportBytes bytes at r → AllKnown (r .end) o → AllKnown at (onReport (r .value) o)
+  unfolding reportsBytes
+  in-front none s k = λ rs e. absurd (no-count e)
+  in-front {at} {r} (some qs) s k = λ rs e.
+      let z : r.value ∷ qs ≡ rs = cc in
+      let q = k qs refl in
+      subst (Known at) z ((s .words, q .0), stands-then (s .stands) (q .1))
+
+  first-report : {at : ℕ} (o : Outcome (Read Report)) (later : ℕ → Option (List Report)) → reportAt bytes at ≡ o → ((m : ℕ) → m ≤ length bytes → AllKnown m (later m)) → AllKnown at (byReport later o)
+  first-report (refuses n) later i k = λ rs e. absurd (no-count e)
+  first-report {at} (gives r) later i k =
+      let s = report-unique bytes at r all i in
+      in-front (later (r .end)) s (k (r .end) (s .stands .inside))
+
+  reports-unique : (n at : ℕ) → at ≤ length bytes → AllKnown at (reportsFrom n bytes end at)
+  unfolding reportsFrom
+  reports-unique zero at h = by-test (AllKnown at) (eqb at end) (λ t. none-left (eqb→eq at end t) h) (λ t rs e. absurd (no-count e))
+  reports-unique (suc n) at h =
+      by-test (AllKnown at) (eqb at end) (λ t. none-left (eqb→eq at end t) h) (λ t. first-report (reportAt bytes at) (reportsFrom n bytes end) refl (λ m k. reports-unique n m k))
+
+pub all-reports-unique : AllReportsReadOnly
+unfolding reportsUpTo
+all-reports-unique bytes count rs all e = reports-unique bytes all count count 0 (omega arith) rs e

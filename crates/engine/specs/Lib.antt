@@ -12,4 +12,6 @@ pub mod RoundTrips
 pub mod Reached
 pub mod Account
 pub mod Demand3
+pub mod Memory
+pub mod Calls
 pub mod Examples

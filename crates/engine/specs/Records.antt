@@ -117,3 +117,24 @@ recordAt bytes at = readAs eventOf (formAt recordFields bytes at)
 
 unfoldable pub reportAt : List ℕ → ℕ → Outcome (Read Report)
 reportAt bytes at = readAs reportOf (formAt reportFields bytes at)
+
+-- Reports one after another
+
+-- a report in front of those that were read behind it
+abbrev pub onReport : Report → Option (List Report) → Option (List Report)
+onReport r none = none
+onReport r (some rs) = some (r ∷ rs)
+
+-- by what stands at an offset; later reads the further reports from an offset on
+abbrev pub byReport : (ℕ → Option (List Report)) → Outcome (Read Report) → Option (List Report)
+byReport later (gives r) = onReport (r .value) (later (r .end))
+byReport later (refuses n) = none
+
+-- the reports from an offset up to an end, at most n of them; none where something else stands there
+unfoldable pub reportsFrom : ℕ → List ℕ → ℕ → ℕ → Option (List Report)
+reportsFrom zero bytes end at = pick (eqb at end) (some []) none
+reportsFrom (suc n) bytes end at = pick (eqb at end) (some []) (byReport (reportsFrom n bytes end) (reportAt bytes at))
+
+-- the reports at the front of a buffer up to a byte count; a report takes a byte or more, so there are no more reports than bytes
+unfoldable pub reportsUpTo : List ℕ → ℕ → Option (List Report)
+reportsUpTo bytes count = reportsFrom count bytes count 0

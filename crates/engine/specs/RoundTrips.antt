@@ -2,6 +2,7 @@
 use Prim.Native.Nat.{ℕ, _≤_, _<_}
 use mathlib.Core.Path.{_≡_}
 use mathlib.Core.List.{List}
+use mathlib.Core.Option.{some}
 use Rattle.numbers.specs.Tests.{All}
 use Rattle.numbers.specs.Answers.{Outcome, gives, Read}
 use Rattle.numbers.specs.SevenBit.{Stands, Written}
@@ -10,7 +11,8 @@ use Rattle.engine.specs.declared.RecordRead.{RecordRead}
 use Rattle.engine.specs.declared.RecordRead.the-variants.{Record}
 use Rattle.engine.specs.declared.RecordWrite.{RecordWrite}
 use Rattle.engine.specs.declared.RecordWrite.the-variants.{End}
-use Rattle.engine.specs.Records.{recordNumbers, reportNumbers, recordBytes, reportBytes, highestField, recordAt, reportAt}
+use Rattle.engine.specs.Reports.{Report}
+use Rattle.engine.specs.Records.{recordNumbers, reportNumbers, recordBytes, reportBytes, reportsBytes, highestField, recordAt, reportAt, reportsUpTo}
 use Rattle.engine.specs.RecordAnswers.{outcomeOfRecordRead, outcomeOfRecordWrite}
 
 -- "each field a 32-bit whole number"
@@ -47,6 +49,16 @@ ReportsReadBack = ReadsBack reportNumbers reportBytes reportAt
 
 abbrev pub ReportsReadOnly : Type 0
 ReportsReadOnly = ReadsOnly reportNumbers reportBytes reportAt
+
+-- the same of reports one after another, at the front of a buffer: `count` is their byte count
+abbrev pub ReportsStand : List ℕ → ℕ → List Report → Type 0
+ReportsStand bytes count rs = All (λ (r : Report). All Word (reportNumbers r)) rs × Stands bytes 0 (reportsBytes rs) count
+
+abbrev pub AllReportsReadBack : Type 0
+AllReportsReadBack = (bytes : List ℕ) (count : ℕ) (rs : List Report) → ReportsStand bytes count rs → reportsUpTo bytes count ≡ some rs
+
+abbrev pub AllReportsReadOnly : Type 0
+AllReportsReadOnly = (bytes : List ℕ) (count : ℕ) (rs : List Report) → All Byte bytes → reportsUpTo bytes count ≡ some rs → ReportsStand bytes count rs
 
 -- Of the calls: what `read_record` and `write_record` ensure of their arguments, their answer and the buffer after
 

@@ -78,3 +78,41 @@ pub enum RecordWrite {
     End(usize),
     NoRoom,
 }
+
+// Why open or an event is refused.
+pub enum Refusal {
+    // the report buffer has under 16,384 bytes
+    BufferTooShort,
+    // 16,777,215 events were accepted
+    EventsSpent,
+    // a price, a close or a bid that isn't one
+    PriceNotLegal,
+    SharesOutOfRange,
+    // mark, show, life or slide
+    CodeOutOfRange,
+    // the id isn't above the last accepted one
+    IdNotNew,
+    BookFull,
+    // no order rests under the id
+    NotResting,
+    // the words break a condition of a venue record
+    VenueBroken,
+}
+
+// What an event answers: the byte count of its reports, or the refusal.
+pub enum Answer {
+    Accepted(usize),
+    Refused(Refusal),
+}
+
+// What open answers.
+pub enum OpenAnswer {
+    Fresh,
+    NotOpened(Refusal),
+}
+
+// A fresh venue, with words all 0 where none was made.
+pub struct Opened {
+    pub answer: OpenAnswer,
+    pub words: [u32; 3344],
+}

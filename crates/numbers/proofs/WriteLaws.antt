@@ -65,10 +65,14 @@ pub written-not : {new before : List ℕ} {at : ℕ} → length before < at + le
 unfolding pick
 written-not {new} {before} {at} h = record { answers = rw (lt-leb (at + length new) (length before) h); leaves = rw (lt-leb (at + length new) (length before) h) }
 
+-- what was put stands there
+pub put-stands : {new before after : List ℕ} {at e : ℕ} → at + length new ≤ length before → Put new at before e after → Stands after at new e
+put-stands {new} {before} {after} {at} {e} h p =
+    subst (λ l. Stands l at new e) (sym (p .leaves)) (subst (λ n. Stands (overwrite before at new) at new n) (sym (p .ends)) (overwrite-stands before at new h))
+
 pub record Fitted (new before : List ℕ) (at e : ℕ) (after : List ℕ) : Type 0 where
   pub room : at + length new ≤ length before
-  pub end : e ≡ at + length new
-  pub bytes : after ≡ overwrite before at new
+  pub put : Put new at before e after
 
 pub fitted : {new before after : List ℕ} {at e : ℕ} → Written new at before (gives e) after → Fitted new before at e after
 unfolding pick
@@ -76,20 +80,15 @@ fitted {new} {before} {after} {at} {e} w = go (decLe (at + length new) (length b
   where
     go : Dec (at + length new ≤ length before) → Fitted new before at e after
     go (yes h) =
-        record {
-          room = h;
-          end = let p : gives e ≡ gives (at + length new) = rw (le-leb (at + length new) (length before) h) at (w .answers) in cc;
-          bytes = rw (le-leb (at + length new) (length before) h) at (w .leaves);
-        }
+        let p : gives e ≡ gives (at + length new) = rw (le-leb (at + length new) (length before) h) at (w .answers) in
+        record { room = h; put = record { ends = cc; leaves = rw (le-leb (at + length new) (length before) h) at (w .leaves) } }
     go (no h) =
         let p : gives e ≡ refuses 13 = rw (lt-leb (at + length new) (length before) (omega arith)) at (w .answers) in
         absurd (let z : _≡_ {A = ℕ} 0 1 = cc in omega arith)
 
 -- what was written stands there, and a number reads back with the same end
 pub written-stands : {new before after : List ℕ} {at e : ℕ} → Written new at before (gives e) after → Stands after at new e
-written-stands {new} {before} {after} {at} {e} w =
-    let f = fitted w in
-    subst (λ l. Stands l at new e) (sym (f .bytes)) (subst (λ n. Stands (overwrite before at new) at new n) (sym (f .end)) (overwrite-stands before at new (f .room)))
+written-stands w = let f = fitted w in put-stands (f .room) (f .put)
 
 pub written-reads : {before after : List ℕ} {at e : ℕ} (x : ℕ) → x < 2 ^ 64 → Written (bytesOf x) at before (gives e) after → numberAt after at ≡ number x e
 written-reads x h w = read-there x h (written-stands w)

@@ -1,0 +1,72 @@
+-- The venue that a run of words means, and what the engine's steps leave in the words and in the report buffer. Assumes nothing.
+use Prim.Native.Nat.{ℕ, _+_, _≤_, _<_}
+use mathlib.Core.Path.{_≡_}
+use mathlib.Core.List.{List}
+use lib.Dec.{T}
+use lib.ListN.{length, getD}
+use Rattle.numbers.specs.SevenBit.{Put}
+use Rattle.book.specs.declared.Order.{Order}
+use Rattle.book.specs.Sound.{idsRise}
+use Rattle.book.specs.Words.{venueWords, resting, Book}
+use Rattle.engine.specs.declared.Event.{Event}
+use Rattle.engine.specs.Market.{marketAfter}
+use Rattle.engine.specs.Reports.{Report}
+use Rattle.engine.specs.Pass.{Effect}
+use Rattle.engine.specs.Venue.{Venue, effectOf, venueAfter}
+use Rattle.engine.specs.Records.{reportsBytes}
+
+-- header words 1 to 6, and the orders; words 7 to 15 are spare
+unfoldable pub venueOf : List ℕ → Venue
+venueOf w =
+    record {
+      market = record { close = getD w 1 0; phase = getD w 2 0; bid = getD w 3 0 };
+      orders = resting w;
+      lastId = getD w 4 0;
+      lastStamp = getD w 5 0;
+      acceptedEvents = getD w 6 0;
+    }
+
+-- words that are a book whose ids rise: what every step of the engine needs, and leaves
+pub record Ordered (w : List ℕ) : Type 0 where
+  pub book : Book w
+  pub rises : T (idsRise 0 (resting w))
+
+-- what no step but the last of an event changes: the length, the header but for the count, the words behind the venue
+pub record SameHeader (w w′ : List ℕ) : Type 0 where
+  pub size : length w′ ≡ length w
+  pub header : (j : ℕ) → 0 < j → j < 16 → getD w′ j 0 ≡ getD w j 0
+  pub behind : (j : ℕ) → venueWords ≤ j → getD w′ j 0 ≡ getD w j 0
+
+-- the same of a whole event: the length, the spare words, the words behind the venue
+pub record SameSpare (w w′ : List ℕ) : Type 0 where
+  pub size : length w′ ≡ length w
+  pub spare : (j : ℕ) → 7 ≤ j → j < 16 → getD w′ j 0 ≡ getD w j 0
+  pub behind : (j : ℕ) → venueWords ≤ j → getD w′ j 0 ≡ getD w j 0
+
+-- there is room for the bytes of these reports from an offset on
+abbrev pub Room : List ℕ → ℕ → List Report → Type 0
+Room b at rs = at + length (reportsBytes rs) ≤ length b
+
+-- a step of the engine: the words w′ then hold the orders os under the header of w, and the buffer b′ is b with the reports rs from the
+-- offset at up to end
+pub record Does (w w′ b b′ : List ℕ) (at : ℕ) (os : List Order) (rs : List Report) (end : ℕ) : Type 0 where
+  pub ordered : Ordered w′
+  pub same : SameHeader w w′
+  pub orders : resting w′ ≡ os
+  pub wrote : Put (reportsBytes rs) at b end b′
+
+-- the same of a step that gives stamps, stamp being the last of them
+pub record DoesEffect (w w′ b b′ : List ℕ) (at : ℕ) (x : Effect) (end stamp : ℕ) : Type 0 where
+  pub does : Does w w′ b b′ at (x .orders) (x .reports) end
+  pub stamped : stamp ≡ x.stamp
+
+-- what an accepted event does to the venue of the words w
+unfoldable pub effectIn : List ℕ → Event → Effect
+effectIn w e = let v : Venue = venueOf w in effectOf (marketAfter e (v .market)) v e
+
+-- an accepted event, done: the words w′ are the venue after it, and b′ has its reports at the front, up to end
+pub record Accepts (w w′ b b′ : List ℕ) (e : Event) (end : ℕ) : Type 0 where
+  pub ordered : Ordered w′
+  pub venue : venueOf w′ ≡ venueAfter (venueOf w) e (effectIn w e)
+  pub same : SameSpare w w′
+  pub wrote : Put (reportsBytes (effectIn w e .reports)) 0 b end b′
