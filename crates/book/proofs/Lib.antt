@@ -13,3 +13,7 @@ pub mod WordStepLaws
 pub mod HoldsLaws
 pub mod RankLaws
 pub mod StepLaws
+pub mod StampLaws
+pub mod SoundBookLaws
+pub mod SoundOrderLaws
+pub mod WalkLaws

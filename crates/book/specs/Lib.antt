@@ -4,4 +4,4 @@ pub mod Sound
 pub mod Words
 pub mod Positions
 pub mod WordSteps
-pub mod Stamps
+pub mod RecordWalk

@@ -15,7 +15,7 @@ pub fn id_at(w: &[u32], i: usize) -> u32
     requires { ⌜ Book (now w) × (i < length (resting (now w))) ⌝ }
     ensures { λ r. ⌜ r ≡ (getD (resting (now (w .entry))) i emptyOrder) .id ⌝ }
 {
-    words::word_at(w, i, 0)
+    words::word_at(w, i, words::ID)
 }
 
 // How many orders stand before the first with a greater id: a binary search.

@@ -1,0 +1,176 @@
+// The conditions of refusal 16 on the orders of a record, for any words, in one walk.
+use crate::words;
+use prices::increments;
+ghost use mathlib.Core.Path.{_≡_};
+ghost use Prim.Native.Nat.{_<_, _≤_};
+ghost use lib.ListN.{length};
+ghost use Rattle.book.specs.Sound.{slideAllowed, soundOrder};
+ghost use Rattle.book.specs.Words.{venueWords, orderAt, flagsAt, soundBook};
+ghost use Rattle.book.specs.RecordWalk.{fromOne, codesSound, pricesSound, idBefore, bucketOf, stampSeen, lastIn, Linked, soundAt};
+
+const VENUE: usize = 3344;
+
+const PLACES: usize = 256;
+
+const BUCKETS: u32 = 256;
+
+const MOST_SHARES: u32 = 1_000_000;
+
+fn codes_sound(mark: u32, show: u32, life: u32, slide: u32) -> bool
+    ensures { λ r. ⌜ r ≡ codesSound mark show life slide ⌝ }
+{
+    if mark > 3 {
+        return false;
+    }
+    if show > 1 {
+        return false;
+    }
+    if life == 0 {
+        return slide_allowed(mark, slide);
+    }
+    false
+}
+
+fn slide_allowed(mark: u32, slide: u32) -> bool
+    ensures { λ r. ⌜ r ≡ slideAllowed mark slide ⌝ }
+{
+    if slide > 3 {
+        return false;
+    }
+    if slide == 0 {
+        return true;
+    }
+    mark == 2
+}
+
+fn prices_sound(limit: u32, price: u32, entry_bid: u32) -> bool
+    ensures { λ r. ⌜ r ≡ pricesSound limit price «entry_bid» ⌝ }
+{
+    if increments::is_legal(limit) {
+        if increments::is_legal(price) {
+            return increments::is_bid(entry_bid);
+        }
+    }
+    false
+}
+
+// Whether a number is from 1 to the highest.
+fn from_one(x: u32, highest: u32) -> bool
+    ensures { λ r. ⌜ r ≡ fromOne x highest ⌝ }
+{
+    if x < 1 {
+        return false;
+    }
+    x <= highest
+}
+
+fn order_sound(w: &[u32], i: usize, last_id: u32, last_stamp: u32) -> bool
+    requires { ⌜ (venueWords ≤ length (now w)) × (i < 256) ⌝ }
+    ensures { λ r. ⌜ r ≡ soundOrder «last_id» «last_stamp» (orderAt (now (w .entry)) i) ⌝ }
+{
+    if words::word_at(w, i, words::ID) > last_id {
+        return false;
+    }
+    if from_one(words::word_at(w, i, words::SHARES), MOST_SHARES) {
+        if from_one(words::word_at(w, i, words::STAMP), last_stamp) {
+            if codes_sound(
+                words::word_at(w, i, words::MARK),
+                words::word_at(w, i, words::SHOW),
+                words::word_at(w, i, words::LIFE),
+                words::word_at(w, i, words::SLIDE),
+            ) {
+                return prices_sound(
+                    words::word_at(w, i, words::LIMIT),
+                    words::word_at(w, i, words::PRICE),
+                    words::word_at(w, i, words::ENTRY_BID),
+                );
+            }
+        }
+    }
+    false
+}
+
+fn flags_sound(w: &[u32], i: usize) -> bool
+    requires { ⌜ (venueWords ≤ length (now w)) × (i < 256) ⌝ }
+    ensures { λ r. ⌜ r ≡ flagsAt (now (w .entry)) i ⌝ }
+{
+    if words::word_at(w, i, words::ADJUSTED) > 1 {
+        return false;
+    }
+    if words::word_at(w, i, words::USED) > 1 {
+        return false;
+    }
+    words::word_at(w, i, words::CLEAR) <= 1
+}
+
+// The id of the place before, 0 for the first.
+fn id_before(w: &[u32], i: usize) -> u32
+    requires { ⌜ (venueWords ≤ length (now w)) × (i < 256) ⌝ }
+    ensures { λ r. ⌜ r ≡ idBefore (now (w .entry)) i ⌝ }
+{
+    if i == 0 {
+        return 0;
+    }
+    words::word_at(w, i - 1, words::ID)
+}
+
+// Whether place i is sound by itself and beside the place before it.
+fn place_sound(w: &[u32], i: usize, last_id: u32, last_stamp: u32) -> bool
+    requires { ⌜ (venueWords ≤ length (now w)) × (i < 256) ⌝ }
+    ensures { λ r. ⌜ r ≡ soundAt «last_id» «last_stamp» (now (w .entry)) i ⌝ }
+{
+    if flags_sound(w, i) {
+        if id_before(w, i) < words::word_at(w, i, words::ID) {
+            return order_sound(w, i, last_id, last_stamp);
+        }
+    }
+    false
+}
+
+// Whether one of the first n places has the stamp, along the chain of its bucket from the last such place, counted from 1.
+fn stamp_seen(w: &[u32], links: &[u32; 256], n: usize, last: u32, stamp: u32) -> bool
+    requires { ⌜ (venueWords ≤ length (now w)) × (n ≤ 256) × Linked (now w) (now links) n × (last ≡ lastIn (now w) (bucketOf stamp) n) ⌝ }
+    ensures { λ r. ⌜ r ≡ stampSeen (now (w .entry)) stamp n ⌝ }
+{
+    let mut at = last;
+    while at > 0 {
+        let j = words::wide(at - 1);
+        if words::word_at(w, j, words::STAMP) == stamp {
+            return true;
+        }
+        at = links[j];
+    }
+    false
+}
+
+// Whether the words are a book whose orders are sound. A stamp is compared only with those of its bucket: `heads` has the last place
+// of each bucket and `links` the one before each place in its bucket, counted from 1, 0 for none.
+pub fn is_sound(w: &[u32], last_id: u32, last_stamp: u32) -> bool
+    ensures { λ r. ⌜ r ≡ soundBook «last_id» «last_stamp» (now (w .entry)) ⌝ }
+{
+    if w.len() < VENUE {
+        return false;
+    }
+    let n = words::wide(w[0]);
+    if n > PLACES {
+        return false;
+    }
+    let mut heads = [0u32; 256];
+    let mut links = [0u32; 256];
+    let mut i = 0;
+    while i < n {
+        if !place_sound(w, i, last_id, last_stamp) {
+            return false;
+        }
+        let stamp = words::word_at(w, i, words::STAMP);
+        let bucket = words::wide(stamp % BUCKETS);
+        let last = heads[bucket];
+        if stamp_seen(w, &links, i, last, stamp) {
+            return false;
+        }
+        links[i] = last;
+        heads[bucket] = (i + 1) as u32;
+        i += 1;
+    }
+    true
+}

@@ -12,6 +12,33 @@ const HEADER: usize = 16;
 
 const WIDTH: usize = 13;
 
+// Where each field lies among the words of an order.
+pub const ID: usize = 0;
+
+pub const MARK: usize = 1;
+
+pub const LIMIT: usize = 2;
+
+pub const SHARES: usize = 3;
+
+pub const SHOW: usize = 4;
+
+pub const LIFE: usize = 5;
+
+pub const SLIDE: usize = 6;
+
+pub const STAMP: usize = 7;
+
+pub const PRICE: usize = 8;
+
+pub const ENTRY_BID: usize = 9;
+
+pub const ADJUSTED: usize = 10;
+
+pub const USED: usize = 11;
+
+pub const CLEAR: usize = 12;
+
 pub fn wide(x: u32) -> usize
     ensures { λ r. ⌜ r ≡ x ⌝ }
 {

@@ -1,13 +1,28 @@
--- The record walk, position by position: stamps seen before, and the buckets by which they are looked up. Assumes nothing.
+-- The record walk, place by place: the conditions in groups, stamps seen before, and the buckets by which they are looked up.
+-- Assumes nothing.
 use Prim.Native.Nat.{ℕ, zero, suc, _%_, _<_}
 use mathlib.Core.Path.{_≡_}
 use mathlib.Core.Bool.{Bool, false, _&&_, _||_}
 use mathlib.Core.List.{List}
-use lib.Dec.{ltb, eqb}
+use lib.Dec.{leb, ltb, eqb}
 use lib.ListN.{getD}
 use Rattle.numbers.specs.Tests.{pick}
-use Rattle.book.specs.Sound.{soundOrder}
+use Rattle.prices.specs.Prices.{legal, isBid}
+use Rattle.book.specs.Sound.{slideAllowed, soundOrder}
 use Rattle.book.specs.Words.{word, orderAt, flagsAt}
+
+-- the conditions on one order, in groups
+
+unfoldable pub fromOne : ℕ → ℕ → Bool
+fromOne x highest = leb 1 x && leb x highest
+
+unfoldable pub codesSound : ℕ → ℕ → ℕ → ℕ → Bool
+codesSound mark show life slide = leb mark 3 && (leb show 1 && (eqb life 0 && slideAllowed mark slide))
+
+unfoldable pub pricesSound : ℕ → ℕ → ℕ → Bool
+pricesSound limit price bid = legal limit && (legal price && isBid bid)
+
+-- stamps
 
 abbrev pub stampAt : List ℕ → ℕ → ℕ
 stampAt w i = word w i 7

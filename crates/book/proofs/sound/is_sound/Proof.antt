@@ -1,0 +1,115 @@
+-- The loop of `is_sound`: the places passed are sound, and heads and links chain them by their stamps. Assumes nothing.
+use borrow.Author.Needs.{needs}
+use Prim.Native.Nat.{ℕ, suc, _+_, _*_, _-_, _/_, _%_, _≤_, _<_}
+use mathlib.Core.Path.{_≡_, refl, sym, ap, ap₂, _∙_, subst}
+use native.Mathlib.Omega.{arith}
+use lib.ListN.{length, getD}
+use Rattle.book.specs.RecordWalk.{lastIn}
+use Rattle.book.proofs.WalkLaws.{Walked, walked-start, walked-more, walked-all, too-short, too-many, not-yes, not-no, unsound-place, seen-stamp}
+use Rattle.book.proofs.sound.is_sound.Statement.{statement}
+use Rattle.book.proofs.sound.is_sound.Tie as tie
+
+abbrev Inv-loop : tie.InvT-loop
+Inv-loop w last-id last-stamp n heads₀ links₀ i₀ heads links i = Walked last-id last-stamp w heads links i × (n ≡ getD w 0 0)
+
+abbrev μ-loop : tie.MeasureT-loop
+μ-loop w last-id last-stamp n heads₀ links₀ i₀ heads links i = n - i
+
+returns : tie.Need-returns Inv-loop μ-loop
+returns c = let s = c .before .before in let w = s .args .w .now in let a = s .args .last-id in let b = s .args .last-stamp in too-short a b w (c .if1 .taken)
+
+shared-slice-read-wide : tie.Need-shared-slice-read-wide Inv-loop μ-loop
+shared-slice-read-wide c = search needs
+
+wide-requires : tie.Need-wide-requires Inv-loop μ-loop
+wide-requires c κs = search needs
+
+returns-2 : tie.Need-returns-2 Inv-loop μ-loop
+returns-2 c = let s = c .before .before .before .before .before in let w = s .args .w .now in let a = s .args .last-id in let b = s .args .last-stamp in too-many a b w (omega (arith, c .before .wide .ensures, c .if2 .taken))
+
+loop-holds : tie.Need-loop-holds Inv-loop μ-loop
+loop-holds c = let s = c .before .before .before .before .before in let w = s .args .w .now in let a = s .args .last-id in let b = s .args .last-stamp in (walked-start a b w (omega arith) (omega (arith, c .before .wide .ensures, c .if2 .left)), c .before .wide .ensures)
+
+place-sound-requires : tie.Need-place-sound-requires Inv-loop μ-loop
+place-sound-requires c κs = search needs
+
+returns-3 : tie.Need-returns-3 Inv-loop μ-loop
+returns-3 c = let s = c .before .before .before .before .before .before .before .before .before in let w = s .args .w .now in let a = s .args .last-id in let b = s .args .last-stamp in unsound-place a b w (c .before .before .before .loop .i) (omega (arith, c .before .before .loop-test .taken, c .before .before .before .loop .inv .1)) (sym (c .before .place-sound .ensures) ∙ not-yes (c .before .place-sound .result) (c .if3 .taken))
+
+word-at-requires : tie.Need-word-at-requires Inv-loop μ-loop
+word-at-requires c κs = search needs
+
+wide-requires-2 : tie.Need-wide-requires-2 Inv-loop μ-loop
+wide-requires-2 c κs = search needs
+
+mul-last : tie.Need-mul-last Inv-loop μ-loop
+mul-last c = search needs
+
+array-read-last : tie.Need-array-read-last Inv-loop μ-loop
+array-read-last c = search needs
+
+stamp-seen-requires : tie.Need-stamp-seen-requires Inv-loop μ-loop
+stamp-seen-requires c κs = let k = c .before .before .before .before .before .before .loop .inv .0 in (k .long, omega (arith, k .inside, k .few), k .chains .linked, k .chains .lasts (c .before .wide2 .result) (omega (arith, c .before .wide2 .ensures)) ∙ ap (λ (x : ℕ). lastIn (c .before .before .before .before .before .before .before .before .before .before .before .before .args .w .now) x (c .before .before .before .before .before .before .loop .i)) (c .before .wide2 .ensures))
+
+returns-4 : tie.Need-returns-4 Inv-loop μ-loop
+returns-4 c = let s = c .before .before .before .before .before .before .before .before .before .before .before .before .before .before in let w = s .args .w .now in let a = s .args .last-id in let b = s .args .last-stamp in seen-stamp a b w (c .before .before .before .before .before .before .before .before .loop .i) (c .before .before .before .before .word-at .result) (omega (arith, c .before .before .before .before .before .before .before .loop-test .taken, c .before .before .before .before .before .before .before .before .loop .inv .1)) (c .before .before .before .before .word-at .ensures) (sym (c .before .stamp-seen .ensures) ∙ c .if4 .taken)
+
+mul-links : tie.Need-mul-links Inv-loop μ-loop
+mul-links c = search needs
+
+array-write-links : tie.Need-array-write-links Inv-loop μ-loop
+array-write-links c = search needs
+
+add-heads : tie.Need-add-heads Inv-loop μ-loop
+add-heads c = search needs
+
+cast-heads : tie.Need-cast-heads Inv-loop μ-loop
+cast-heads c = search needs
+
+mul-heads : tie.Need-mul-heads Inv-loop μ-loop
+mul-heads c = search needs
+
+array-write-heads : tie.Need-array-write-heads Inv-loop μ-loop
+array-write-heads c = search needs
+
+add-i : tie.Need-add-i Inv-loop μ-loop
+add-i c = search needs
+
+loop-less : tie.Need-loop-less Inv-loop μ-loop
+loop-less c = search needs
+
+loop-again : tie.Need-loop-again Inv-loop μ-loop
+loop-again c = let s = c .before .before .before .before .before .before .before .before .before .before .before .before .before .before in let w = s .args .w .now in let a = s .args .last-id in let b = s .args .last-stamp in (walked-more a b w (c .before .before .before .before .word-at .result) (c .before .before .before .wide2 .result) _ (c .before .before .before .before .before .before .before .before .loop .inv .0) (omega (arith, c .before .before .before .before .before .before .before .loop-test .taken, c .before .before .before .before .before .before .before .before .loop .inv .1)) (c .before .before .before .before .word-at .ensures) (c .before .before .before .wide2 .ensures) refl (sym (c .before .before .before .before .before .before .place-sound .ensures) ∙ not-no (c .before .before .before .before .before .before .place-sound .result) (c .before .before .before .before .before .if3 .left)) (sym (c .before .stamp-seen .ensures) ∙ c .if4 .left), c .before .before .before .before .before .before .before .before .loop .inv .1)
+
+returns-5 : tie.Need-returns-5 Inv-loop μ-loop
+returns-5 c = let s = c .before .before .before .before .before .before .before in let w = s .args .w .now in let a = s .args .last-id in let b = s .args .last-stamp in walked-all a b w (c .before .loop .inv .0) (omega (arith, c .loop-test .left, c .before .loop .inv .1))
+
+pub is-sound-spec : {M : Type 1} → statement M
+is-sound-spec =
+    tie.close
+    (tie.spec
+    Inv-loop
+    μ-loop
+    returns
+    shared-slice-read-wide
+    wide-requires
+    returns-2
+    loop-holds
+    place-sound-requires
+    returns-3
+    word-at-requires
+    wide-requires-2
+    mul-last
+    array-read-last
+    stamp-seen-requires
+    returns-4
+    mul-links
+    array-write-links
+    add-heads
+    cast-heads
+    mul-heads
+    array-write-heads
+    add-i
+    loop-less
+    loop-again
+    returns-5)

@@ -1,0 +1,34 @@
+-- `prices_sound` by its tests. Assumes nothing.
+use mathlib.Core.Path.{_≡_, refl, sym, ap, ap₂, _∙_, subst}
+use mathlib.Core.Bool.{true, false, _&&_}
+use Rattle.book.specs.RecordWalk.{pricesSound}
+use Rattle.book.proofs.SoundOrderLaws.{and-yes, and-no}
+use borrow.Author.Needs.{needs}
+use Rattle.book.proofs.sound.prices_sound.Statement.{statement}
+use Rattle.book.proofs.sound.prices_sound.Tie as tie
+
+is-legal-requires : tie.Need-is-legal-requires
+is-legal-requires c κs = search needs
+
+is-legal-requires-2 : tie.Need-is-legal-requires-2
+is-legal-requires-2 c κs = search needs
+
+is-bid-requires : tie.Need-is-bid-requires
+is-bid-requires c κs = search needs
+
+returns : tie.Need-returns
+unfolding pricesSound
+returns c = sym (and-yes _ (sym (c .before .before .before .before .is-legal .ensures) ∙ c .before .before .before .if1 .taken) ∙ and-yes _ (sym (c .before .before .is-legal2 .ensures) ∙ c .before .if2 .taken) ∙ sym (c .is-bid .ensures))
+
+returns-2 : tie.Need-returns-2
+unfolding pricesSound
+returns-2 c = sym (and-yes _ (sym (c .before .before .before .is-legal .ensures) ∙ c .before .before .if1 .taken) ∙ and-no _ (sym (c .before .is-legal2 .ensures) ∙ c .if2 .left))
+
+returns-3 : tie.Need-returns-3
+unfolding pricesSound
+returns-3 c = sym (and-no _ (sym (c .before .is-legal .ensures) ∙ c .if1 .left))
+
+pub prices-sound-spec : {M : Type 1} → statement M
+prices-sound-spec =
+    tie.close
+    (tie.spec is-legal-requires is-legal-requires-2 is-bid-requires returns returns-2 returns-3)
