@@ -37,7 +37,7 @@ fn shift_up(w: &mut [u32], from: usize, to: usize)
 }
 
 // Takes the order at position i out.
-pub fn remove_at(w: &mut [u32], i: usize)
+pub(crate) fn remove_at(w: &mut [u32], i: usize)
     requires { ⌜ Book (now w) × (i < length (resting (now w))) ⌝ }
     ensures { λ _. ⌜ Holds (now (w .entry)) (now (w .exit)) (removeAt i (resting (now (w .entry)))) ⌝ }
 {
@@ -63,7 +63,7 @@ pub fn replace(w: &mut [u32], i: usize, o: Order)
 }
 
 // Puts an order in at position i.
-pub fn insert_at(w: &mut [u32], i: usize, o: Order)
+pub(crate) fn insert_at(w: &mut [u32], i: usize, o: Order)
     requires { ⌜ Book (now w) × (i ≤ length (resting (now w))) × (length (resting (now w)) < 256) ⌝ }
     ensures { λ _. ⌜ Holds (now (w .entry)) (now (w .exit)) (insertAt i o (resting (now (w .entry)))) ⌝ }
 {

@@ -12,7 +12,7 @@ ghost use Rattle.book.specs.Words.{resting, Book};
 ghost use Rattle.book.specs.Positions.{Below, IsAt, Found, considered};
 
 // Whether the working order o reaches the resting order x.
-pub fn reaches(o: Order, x: Order) -> bool
+fn reaches(o: Order, x: Order) -> bool
     ensures { λ r. ⌜ r ≡ Matching.reaches o x ⌝ }
 {
     if o.mark == 0 {
@@ -38,7 +38,7 @@ fn better_price(mark: u32, p: u32, q: u32) -> bool
 }
 
 // Whether a is better than b for the working order o.
-pub fn better(o: Order, a: Order, b: Order) -> bool
+fn better(o: Order, a: Order, b: Order) -> bool
     ensures { λ r. ⌜ r ≡ Matching.better o a b ⌝ }
 {
     if better_price(o.mark, a.price, b.price) {

@@ -19,7 +19,7 @@ pub fn id_at(w: &[u32], i: usize) -> u32
 }
 
 // How many orders stand before the first with a greater id: a binary search.
-pub fn rank(w: &[u32], id: u32) -> usize
+pub(crate) fn rank(w: &[u32], id: u32) -> usize
     requires { ⌜ Book (now w) × T (idsRise 0 (resting (now w))) ⌝ }
     ensures { λ r. ⌜ r ≡ rankOf id (resting (now (w .entry))) ⌝ }
 {
@@ -37,7 +37,7 @@ pub fn rank(w: &[u32], id: u32) -> usize
 }
 
 // The same, for an id that is likely above all others.
-pub fn rank_from_end(w: &[u32], id: u32) -> usize
+pub(crate) fn rank_from_end(w: &[u32], id: u32) -> usize
     requires { ⌜ Book (now w) × T (idsRise 0 (resting (now w))) ⌝ }
     ensures { λ r. ⌜ r ≡ rankOf id (resting (now (w .entry))) ⌝ }
 {

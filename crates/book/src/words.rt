@@ -13,33 +13,33 @@ const HEADER: usize = 16;
 const WIDTH: usize = 13;
 
 // Where each field lies among the words of an order.
-pub const ID: usize = 0;
+pub(crate) const ID: usize = 0;
 
-pub const MARK: usize = 1;
+pub(crate) const MARK: usize = 1;
 
-pub const LIMIT: usize = 2;
+pub(crate) const LIMIT: usize = 2;
 
-pub const SHARES: usize = 3;
+pub(crate) const SHARES: usize = 3;
 
-pub const SHOW: usize = 4;
+pub(crate) const SHOW: usize = 4;
 
-pub const LIFE: usize = 5;
+pub(crate) const LIFE: usize = 5;
 
-pub const SLIDE: usize = 6;
+pub(crate) const SLIDE: usize = 6;
 
-pub const STAMP: usize = 7;
+pub(crate) const STAMP: usize = 7;
 
-pub const PRICE: usize = 8;
+pub(crate) const PRICE: usize = 8;
 
-pub const ENTRY_BID: usize = 9;
+pub(crate) const ENTRY_BID: usize = 9;
 
-pub const ADJUSTED: usize = 10;
+pub(crate) const ADJUSTED: usize = 10;
 
-pub const USED: usize = 11;
+pub(crate) const USED: usize = 11;
 
-pub const CLEAR: usize = 12;
+pub(crate) const CLEAR: usize = 12;
 
-pub fn wide(x: u32) -> usize
+pub(crate) fn wide(x: u32) -> usize
     ensures { λ r. ⌜ r ≡ x ⌝ }
 {
     x as usize
@@ -76,7 +76,7 @@ pub fn clear(w: &mut [u32])
 }
 
 // The index of the first word of place i.
-pub fn first_word(i: usize) -> usize
+pub(crate) fn first_word(i: usize) -> usize
     requires { ⌜ i ≤ 256 ⌝ }
     ensures { λ r. ⌜ r ≡ 16 + i * 13 ⌝ }
 {
@@ -84,7 +84,7 @@ pub fn first_word(i: usize) -> usize
 }
 
 // Word k of place i.
-pub fn word_at(w: &[u32], i: usize, k: usize) -> u32
+pub(crate) fn word_at(w: &[u32], i: usize, k: usize) -> u32
     requires { ⌜ (venueWords ≤ length (now w)) × (i < 256) × (k < 13) ⌝ }
     ensures { λ r. ⌜ r ≡ word (now (w .entry)) i k ⌝ }
 {
@@ -160,7 +160,7 @@ fn copy_row(w: &mut [u32], at: usize, row: &[u32; 13])
 }
 
 // Stores an order in place i, used or not.
-pub fn store(w: &mut [u32], i: usize, o: Order)
+pub(crate) fn store(w: &mut [u32], i: usize, o: Order)
     requires { ⌜ (venueWords ≤ length (now w)) × (i < 256) ⌝ }
     ensures { λ _. ⌜ Stored (now (w .entry)) (now (w .exit)) i o ⌝ }
 {
