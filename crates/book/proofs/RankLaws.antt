@@ -4,18 +4,18 @@ use native.Mathlib.Nat.{le-of-suc-le-suc, not-suc-le-zero}
 use native.Mathlib.Omega.{arith}
 use mathlib.Core.Path.{_≡_, refl, sym, ap, _∙_, subst}
 use mathlib.Core.Bool.{Bool, true, false, not}
-use mathlib.Core.Option.{none, some}
-use mathlib.Core.List.{List, [], _∷_}
+use mathlib.Core.Option.{Option, none, some}
+use mathlib.Core.List.{List, [], _∷_, List·Memᴰ, List·Memᴰ·head, List·Memᴰ·tail}
 use lib.Dec.{T, ltb, lt→ltb, ltb→lt, not-T}
 use lib.ListN.{length, getD}
-use Rattle.numbers.specs.Tests.{pick}
-use Rattle.numbers.proofs.TestLaws.{by-test, pick-yes, pick-no, ne→T, tests}
+use Rattle.numbers.specs.Tests.{pick, All}
+use Rattle.numbers.proofs.TestLaws.{by-test, pick-yes, pick-no, ne→T, tests, all-map}
 use Rattle.book.specs.declared.Order.{Order}
 use Rattle.book.specs.Orders.{find, insert}
 use Rattle.book.specs.Words.{emptyOrder}
 use Rattle.book.specs.Positions.{insertAt, rankOf, firstAbove}
 use Rattle.book.proofs.TabulateLaws.{by-order}
-use Rattle.book.proofs.RisingLaws.{Rises}
+use Rattle.book.proofs.RisingLaws.{Rises, rises-all}
 use Rattle.book.proofs.PositionLaws.{id-above}
 
 -- the id at a position
@@ -129,6 +129,33 @@ firstAbove-none id (o ∷ os) h = go (ltb id (o .id)) (firstAbove-none id os) h
     go : (b : Bool) → (length os ≤ rankOf id os → firstAbove id os ≡ none) → suc (length os) ≤ pick b 0 (suc (rankOf id os)) → pick b (some o) (firstAbove id os) ≡ none
     go true f h = absurd (not-suc-le-zero h)
     go false f h = f (le-of-suc-le-suc h)
+
+-- what is known where the first order above an id is this
+abbrev pub FirstAbove : ℕ → List Order → Option Order → Type 0
+FirstAbove id l none = All (λ (o : Order). o.id ≤ id) l
+FirstAbove id l (some o) = List·Memᴰ o l × (id < o.id)
+
+pub firstAbove-is : (id : ℕ) (l : List Order) → FirstAbove id l (firstAbove id l)
+unfolding firstAbove
+firstAbove-is id [] = tt
+firstAbove-is id (x ∷ xs) =
+    by-test (FirstAbove id (x ∷ xs)) _ (λ t. (List·Memᴰ·head refl, ltb→lt id (x .id) t)) (λ t. further (firstAbove id xs) (omega tests) (firstAbove-is id xs))
+  where
+    further : (m : Option Order) → x.id ≤ id → FirstAbove id xs m → FirstAbove id (x ∷ xs) m
+    further none h f = (h, f)
+    further (some o) h f = (List·Memᴰ·tail (f .0), f .1)
+
+-- where ids rise, none above the id is lower
+pub firstAbove-least : (k id : ℕ) (l : List Order) (o : Order) → Rises k l → firstAbove id l ≡ some o → All (λ (x : Order). id < x.id → o.id ≤ x.id) l
+unfolding firstAbove
+firstAbove-least k id [] o r e = tt
+firstAbove-least k id (x ∷ xs) o r eq =
+    by-test
+    (λ (m : Option Order). m ≡ some o → All (λ (y : Order). id < y.id → o.id ≤ y.id) (x ∷ xs))
+    _
+    (λ t e. let q : x ≡ o = cc in subst (λ (z : Order). All (λ (y : Order). id < y.id → z.id ≤ y.id) (x ∷ xs)) q ((λ h. omega arith), all-map (λ y h g. omega arith) xs (rises-all (x .id) xs (r .1))))
+    (λ t e. ((λ h. absurd (omega tests)), firstAbove-least (x .id) id xs o (r .1) e))
+    eq
 
 -- by position and by id: no rising ids are needed
 pub insert-rank : (o : Order) (l : List Order) → insert o l ≡ insertAt (rankOf (o .id) l) o l

@@ -1,9 +1,8 @@
 -- Laws of the conditions of refusal 16 on words: all of them together are those of each place. Assumes nothing.
 use Prim.Native.Nat.{ℕ, zero, suc, _≤_, _<_, zero-le, suc-le-suc}
 use native.Mathlib.Nat.{le-of-suc-le-suc, not-suc-le-zero}
-use native.Mathlib.Omega.{arith}
 use mathlib.Core.Path.{_≡_, refl, sym, subst}
-use mathlib.Core.Bool.{Bool, true, false, not, _&&_}
+use mathlib.Core.Bool.{Bool, not, _&&_}
 use mathlib.Core.List.{List, [], _∷_}
 use lib.Dec.{T, ltb, eqb, leb→le, le→leb}
 use lib.ListN.{length, getD}
@@ -16,7 +15,7 @@ use Rattle.book.specs.RecordWalk.{stampAt, stampSeen, idBefore, soundAt}
 use Rattle.book.proofs.OrderLaws.{stampOf, Differ}
 use Rattle.book.proofs.RisingLaws.{Rises, idsRise-rises, rises-idsRise}
 use Rattle.book.proofs.TabulateLaws.{all-tabulate, tabulate-all}
-use Rattle.book.proofs.WordLaws.{resting-is, LaidOut, isBook-laidOut, laidOut-isBook, isBook-book}
+use Rattle.book.proofs.WordLaws.{LaidOut, isBook-laidOut, laidOut-isBook, isBook-book}
 use Rattle.book.proofs.StampLaws.{unseen-T, T-unseen}
 
 -- rising ids, place by place

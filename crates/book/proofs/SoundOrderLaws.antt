@@ -4,9 +4,9 @@ use mathlib.Core.Path.{_≡_, refl}
 use mathlib.Core.Bool.{Bool, true, false, _&&_}
 use lib.Dec.{T, leb, eqb}
 use Rattle.numbers.proofs.TestLaws.{and-T, T-and, conj-T, T-conj}
-use Rattle.prices.specs.Prices.{legal, isBid}
+use Rattle.prices.specs.Prices.{legal}
 use Rattle.book.specs.declared.Order.{Order}
-use Rattle.book.specs.Sound.{mostShares, slideAllowed, orderConditions, soundOrder}
+use Rattle.book.specs.Sound.{mostShares, orderConditions, soundOrder}
 use Rattle.book.specs.RecordWalk.{fromOne, codesSound, pricesSound}
 
 pub and-yes : {a : Bool} (b : Bool) → a ≡ true → (a && b) ≡ b

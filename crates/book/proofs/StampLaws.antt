@@ -1,17 +1,16 @@
 -- Laws of stamps seen before, and of the buckets by which they are looked up. Assumes nothing.
-use Prim.Native.Nat.{ℕ, zero, suc, _+_, _-_, _%_, _≤_, _<_, zero-le}
-use native.Mathlib.Nat.{le-of-suc-le-suc, not-suc-le-zero}
+use Prim.Native.Nat.{ℕ, zero, suc, _+_, _-_, _≤_, _<_, zero-le}
+use native.Mathlib.Nat.{not-suc-le-zero}
 use native.Mathlib.Omega.{arith}
 use native.Mathlib.Numerals.{add-one}
 use mathlib.Core.Path.{_≡_, refl, sym, ap, _∙_, subst}
 use mathlib.Core.Bool.{Bool, true, false, not, _||_}
 use mathlib.Core.List.{List}
 use lib.Dec.{T, eqb, eqb→eq}
-use lib.ListN.{length, getD, set, length-set, replicate, getD-replicate}
+use lib.ListN.{length, getD, set, replicate, getD-replicate}
 use lib.Seq.{getD-set-same, getD-set-other}
 use borrow.Author.Tests.{eq-eqb, ne-eqb}
-use Rattle.numbers.specs.Tests.{pick}
-use Rattle.numbers.proofs.TestLaws.{by-test, pick-yes, pick-no, neqb, ne→T, eq→T}
+use Rattle.numbers.proofs.TestLaws.{by-test, neqb, eq→T}
 use Rattle.book.specs.Words.{word}
 use Rattle.book.specs.RecordWalk.{stampAt, stampSeen, bucketOf, lastIn, Linked, idBefore}
 use Rattle.book.proofs.TabulateLaws.{by-order}

@@ -1,5 +1,5 @@
 -- Laws of the record walk: what is known after some places, and what it answers. Assumes nothing.
-use Prim.Native.Nat.{ℕ, zero, suc, _+_, _≤_, _<_, zero-le}
+use Prim.Native.Nat.{ℕ, _+_, _≤_, _<_, zero-le}
 use native.Mathlib.Nat.{not-suc-le-zero}
 use native.Mathlib.Omega.{arith}
 use mathlib.Core.Path.{_≡_, refl, sym, _∙_, subst}
@@ -11,7 +11,7 @@ use Rattle.book.specs.Words.{venueWords, soundBook}
 use Rattle.book.specs.RecordWalk.{stampAt, stampSeen, bucketOf, soundAt}
 use Rattle.book.proofs.TabulateLaws.{by-order}
 use Rattle.book.proofs.StampLaws.{Chains, chains-start, chains-more}
-use Rattle.book.proofs.SoundBookLaws.{SoundPlaces, soundBook-places, places-soundBook}
+use Rattle.book.proofs.SoundBookLaws.{soundBook-places, places-soundBook}
 
 pub record Walked (lastId lastStamp : ℕ) (w heads links : List ℕ) (i : ℕ) : Type 0 where
   pub long : venueWords ≤ length w

@@ -62,14 +62,14 @@ pub fn replace(w: &mut [u32], i: usize, o: Order)
     words::store(w, i, o);
 }
 
-// Puts an order in at position i.
-pub(crate) fn insert_at(w: &mut [u32], i: usize, o: Order)
-    requires { ⌜ Book (now w) × (i ≤ length (resting (now w))) × (length (resting (now w)) < 256) ⌝ }
-    ensures { λ _. ⌜ Holds (now (w .entry)) (now (w .exit)) (insertAt i o (resting (now (w .entry)))) ⌝ }
+// Puts an order in at a position.
+pub(crate) fn insert_at(w: &mut [u32], at: usize, o: Order)
+    requires { ⌜ Book (now w) × (at ≤ length (resting (now w))) × (length (resting (now w)) < 256) ⌝ }
+    ensures { λ _. ⌜ Holds (now (w .entry)) (now (w .exit)) (insertAt at o (resting (now (w .entry)))) ⌝ }
 {
     let n = words::count(w);
-    shift_up(w, words::first_word(i), words::first_word(n));
-    words::store(w, i, o);
+    shift_up(w, words::first_word(at), words::first_word(n));
+    words::store(w, at, o);
     w[0] = (n + 1) as u32;
 }
 

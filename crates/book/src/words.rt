@@ -53,11 +53,11 @@ pub fn count(w: &[u32]) -> usize
     wide(w[0])
 }
 
-pub fn header_word(w: &[u32], k: usize) -> u32
-    requires { ⌜ Book (now w) × (k < 16) ⌝ }
-    ensures { λ r. ⌜ r ≡ getD (now (w .entry)) k 0 ⌝ }
+pub fn header_word(w: &[u32], at: usize) -> u32
+    requires { ⌜ Book (now w) × (at < 16) ⌝ }
+    ensures { λ r. ⌜ r ≡ getD (now (w .entry)) at 0 ⌝ }
 {
-    w[k]
+    w[at]
 }
 
 pub fn set_header_word(w: &mut [u32], k: usize, x: u32)

@@ -15,15 +15,15 @@ use Rattle.engine.specs.declared.RecordRead.the-variants.{Record, Refuse
 use Rattle.engine.specs.declared.RecordWrite.{RecordWrite}
 use Rattle.engine.specs.declared.RecordWrite.the-variants.{End, NoRoom}
 
-abbrev pub numberOf : ReadRefusal → ℕ
-numberOf MissingByte = 9
-numberOf BadNumber = 10
-numberOf UnknownKind = 11
-numberOf FieldTooLarge = 12
+abbrev pub readRefusalNumber : ReadRefusal → ℕ
+readRefusalNumber MissingByte = 9
+readRefusalNumber BadNumber = 10
+readRefusalNumber UnknownKind = 11
+readRefusalNumber FieldTooLarge = 12
 
 abbrev pub outcomeOfRecordRead : RecordRead → Outcome (Read Event)
 outcomeOfRecordRead (Record event end) = gives (record { value = event; end = end })
-outcomeOfRecordRead (Refused r) = refuses (numberOf r)
+outcomeOfRecordRead (Refused r) = refuses (readRefusalNumber r)
 
 abbrev pub outcomeOfRecordWrite : RecordWrite → Outcome ℕ
 outcomeOfRecordWrite (End end) = gives end
@@ -32,11 +32,11 @@ outcomeOfRecordWrite NoRoom = refuses 13
 -- a single field, and the fields xs that were read
 abbrev pub outcomeOfField : FieldRead → Outcome (Read (List ℕ))
 outcomeOfField (Field x end) = gives (record { value = x ∷ []; end = end })
-outcomeOfField (fieldRefused r) = refuses (numberOf r)
+outcomeOfField (fieldRefused r) = refuses (readRefusalNumber r)
 
 abbrev pub outcomeOfFields : FieldsRead → List ℕ → Outcome (Read (List ℕ))
 outcomeOfFields (fieldsEnd end) xs = gives (record { value = xs; end = end })
-outcomeOfFields (fieldsRefused r) xs = refuses (numberOf r)
+outcomeOfFields (fieldsRefused r) xs = refuses (readRefusalNumber r)
 
 -- "these give 0 on refusal (3; 9 to 12), else the price, or the record's byte count; the check reads at offset 0"
 abbrev pub endOrZero : {A : Type 0} → Outcome (Read A) → ℕ

@@ -1,6 +1,7 @@
 // The venue of document 01: events, reports, refusals and the law of demand 3. The fourth layer.
 pub mod host;
 pub mod record;
+pub mod refusals;
 pub mod report;
 
 // The close, the phase of the restriction and the national bid.

@@ -34,7 +34,7 @@ same-length : tie.Need-same-length
 same-length c = simp length-set (c .before .before .store .ensures .size ∙ c .before .before .before .before .before .before .shift-up .ensures .size)
 
 returns : tie.Need-returns
-returns c = let s = c .before .before .before .before .before .before .before .before .before .before .before .before .before in inserted (s .args .w .now) (c .before .before .before .before .before .before .shift-up .last .0) (c .before .before .store .last .0) (s .args .o) (s .args .i) (c .before .before .before .before .before .before .before .before .before .before .count .result) (c .before .before .before .before .before .before .before .before .first-word .result) (c .before .before .before .before .before .before .before .first-word2 .result) (c .before .before .before .before .before .before .before .before .before .before .count .ensures) (c .before .before .before .before .before .before .before .before .first-word .ensures) (c .before .before .before .before .before .before .before .first-word2 .ensures) (s .pre .1) (s .pre .0) (s .pre .2) (c .before .before .before .before .before .before .shift-up .ensures) (c .before .before .store .ensures)
+returns c = let s = c .before .before .before .before .before .before .before .before .before .before .before .before .before in inserted (s .args .w .now) (c .before .before .before .before .before .before .shift-up .last .0) (c .before .before .store .last .0) (s .args .o) (s .args .at) (c .before .before .before .before .before .before .before .before .before .before .count .result) (c .before .before .before .before .before .before .before .before .first-word .result) (c .before .before .before .before .before .before .before .first-word2 .result) (c .before .before .before .before .before .before .before .before .before .before .count .ensures) (c .before .before .before .before .before .before .before .before .first-word .ensures) (c .before .before .before .before .before .before .before .first-word2 .ensures) (s .pre .1) (s .pre .0) (s .pre .2) (c .before .before .before .before .before .before .shift-up .ensures) (c .before .before .store .ensures)
 
 pub insert-at-spec : {M : Type 1} → statement M
 insert-at-spec =

@@ -1,5 +1,5 @@
 -- `codes_sound` by its tests. Assumes nothing.
-use borrow.Author.Tests.{lt-ltb, le-ltb, le-leb, lt-leb, eq-eqb, ne-eqb}
+use borrow.Author.Tests.{le-leb, lt-leb, eq-eqb, ne-eqb}
 use Rattle.book.specs.RecordWalk.{codesSound}
 use borrow.Author.Needs.{needs}
 use Rattle.book.proofs.sound.codes_sound.Statement.{statement}

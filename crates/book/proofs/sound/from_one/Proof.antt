@@ -1,5 +1,5 @@
 -- `from_one` by its two tests. Assumes nothing.
-use borrow.Author.Tests.{lt-ltb, le-ltb, le-leb, lt-leb, eq-eqb, ne-eqb}
+use borrow.Author.Tests.{le-leb, lt-leb}
 use Rattle.book.specs.RecordWalk.{fromOne}
 use Rattle.book.proofs.sound.from_one.Statement.{statement}
 use Rattle.book.proofs.sound.from_one.Tie as tie

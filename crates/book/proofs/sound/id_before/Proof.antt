@@ -1,6 +1,5 @@
 -- `id_before` of the first place and of any other. Assumes nothing.
-use Prim.Native.Nat.{ℕ, suc, _+_, _*_, _-_, _/_, _≤_, _<_}
-use mathlib.Core.Path.{_≡_, refl, sym, ap, ap₂, _∙_, subst}
+use mathlib.Core.Path.{_≡_, sym, _∙_}
 use native.Mathlib.Omega.{arith}
 use Rattle.book.proofs.StampLaws.{idBefore-at}
 use borrow.Author.Needs.{needs}

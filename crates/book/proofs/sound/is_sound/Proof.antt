@@ -1,9 +1,9 @@
 -- The loop of `is_sound`: the places passed are sound, and heads and links chain them by their stamps. Assumes nothing.
 use borrow.Author.Needs.{needs}
-use Prim.Native.Nat.{ℕ, suc, _+_, _*_, _-_, _/_, _%_, _≤_, _<_}
-use mathlib.Core.Path.{_≡_, refl, sym, ap, ap₂, _∙_, subst}
+use Prim.Native.Nat.{ℕ, _-_}
+use mathlib.Core.Path.{_≡_, refl, sym, ap, _∙_}
 use native.Mathlib.Omega.{arith}
-use lib.ListN.{length, getD}
+use lib.ListN.{getD}
 use Rattle.book.specs.RecordWalk.{lastIn}
 use Rattle.book.proofs.WalkLaws.{Walked, walked-start, walked-more, walked-all, too-short, too-many, not-yes, not-no, unsound-place, seen-stamp}
 use Rattle.book.proofs.sound.is_sound.Statement.{statement}

@@ -1,8 +1,8 @@
 -- `order_sound` by its groups of tests. Assumes nothing.
-use Prim.Native.Nat.{ℕ, suc, _+_, _*_, _-_, _/_, _≤_, _<_}
-use mathlib.Core.Path.{_≡_, refl, sym, ap, ap₂, _∙_, subst}
-use mathlib.Core.Bool.{true, false, _&&_}
-use borrow.Author.Tests.{lt-ltb, le-ltb, le-leb, lt-leb, eq-eqb, ne-eqb}
+use Prim.Native.Nat.{ℕ, _≤_, _<_}
+use mathlib.Core.Path.{_≡_, sym, ap, _∙_, subst}
+use mathlib.Core.Bool.{true, false}
+use borrow.Author.Tests.{le-leb, lt-leb}
 use Rattle.book.specs.Sound.{mostShares}
 use Rattle.book.specs.Words.{word, orderAt}
 use Rattle.book.specs.RecordWalk.{fromOne, codesSound, pricesSound}

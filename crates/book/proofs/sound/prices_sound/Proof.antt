@@ -1,6 +1,5 @@
 -- `prices_sound` by its tests. Assumes nothing.
-use mathlib.Core.Path.{_≡_, refl, sym, ap, ap₂, _∙_, subst}
-use mathlib.Core.Bool.{true, false, _&&_}
+use mathlib.Core.Path.{sym, _∙_}
 use Rattle.book.specs.RecordWalk.{pricesSound}
 use Rattle.book.proofs.SoundOrderLaws.{and-yes, and-no}
 use borrow.Author.Needs.{needs}

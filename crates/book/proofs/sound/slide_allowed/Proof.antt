@@ -1,5 +1,5 @@
 -- `slide_allowed` by its tests. Assumes nothing.
-use borrow.Author.Tests.{lt-ltb, le-ltb, le-leb, lt-leb, eq-eqb, ne-eqb}
+use borrow.Author.Tests.{le-leb, lt-leb, eq-eqb, ne-eqb}
 use Rattle.book.proofs.sound.slide_allowed.Statement.{statement}
 use Rattle.book.proofs.sound.slide_allowed.Tie as tie
 

@@ -1,8 +1,7 @@
 -- The loop of `stamp_seen`: the stamp was seen where it was among the places up to this one. Assumes nothing.
 use borrow.Author.Needs.{needs}
-use Prim.Native.Nat.{ℕ, suc, _+_, _*_, _-_, _/_, _≤_, _<_}
-use mathlib.Core.Path.{_≡_, refl, sym, ap, ap₂, _∙_, subst}
-use native.Mathlib.Omega.{arith}
+use Prim.Native.Nat.{ℕ, _<_}
+use mathlib.Core.Path.{sym, ap, _∙_, subst}
 use lib.ListN.{getD}
 use Rattle.book.specs.RecordWalk.{stampAt}
 use Rattle.book.proofs.StampLaws.{ChainAt, chain-start, chain-hit, chain-next, chain-shorter, chain-end}
