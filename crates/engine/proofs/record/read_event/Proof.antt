@@ -23,7 +23,7 @@ returns-3 : tie.Need-returns-3
 unfolding recordFields pick
 returns-3 c =
     let k = c .before .before .before .before .args .kind in
-    rw (ne-eqb k 1 (c .before .before .if1 .left), le-leb 2 k (c .before .if2 .left), lt-leb k 5 (c .if3 .taken))
+    rw (ne-eqb k 1 (c .before .before .if1 .left), le-leb 2 k (c .before .if2 .left), lt-leb k 5 (omega arith))
 
 read-single-requires : tie.Need-read-single-requires
 read-single-requires c κs = search needs
@@ -32,7 +32,7 @@ returns-4 : tie.Need-returns-4
 unfolding recordFields pick
 returns-4 c =
     let k = c .before .before .before .before .before .args .kind in
-    rw (ne-eqb k 1 (c .before .before .before .if1 .left), le-leb 2 k (c .before .before .if2 .left), le-leb k 5 (c .before .if3 .left)) (c .read-single .ensures)
+    rw (ne-eqb k 1 (c .before .before .before .if1 .left), le-leb 2 k (c .before .before .if2 .left), le-leb k 5 (omega arith)) (c .read-single .ensures)
 
 pub read-event-spec : {M : Type 1} → statement M
 read-event-spec =

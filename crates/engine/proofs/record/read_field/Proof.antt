@@ -1,4 +1,5 @@
 -- The number at the offset is the field, unless it is above 32 bits. Assumes nothing.
+use native.Mathlib.Omega.{arith}
 use mathlib.Core.Path.{sym, ap, _∙_}
 use Rattle.numbers.specs.SevenBit.{outcomeOfRead}
 use Rattle.engine.proofs.ReadingLaws.{field-refused, field-above, field-given}
@@ -21,7 +22,7 @@ enum-known-value c = search needs
 returns : tie.Need-returns
 returns c =
     let a = c .before .before .before .before .before .before .args in
-    sym (field-above (a .bytes .now) (a .at) (sym (c .before .before .before .before .read-number .ensures) ∙ ap outcomeOfRead (c .before .before .value .given .1)) (c .if1 .taken))
+    sym (field-above (a .bytes .now) (a .at) (sym (c .before .before .before .before .read-number .ensures) ∙ ap outcomeOfRead (c .before .before .value .given .1)) (omega arith))
 
 cast-t11 : tie.Need-cast-t11
 cast-t11 c = search needs
@@ -39,7 +40,7 @@ returns-3 c =
 returns-4 : tie.Need-returns-4
 returns-4 c =
     let a = c .before .before .before .before .before .before .args in
-    sym (field-given (a .bytes .now) (a .at) (sym (c .before .before .before .before .read-number .ensures) ∙ ap outcomeOfRead (c .before .before .value .given .1)) (c .if1 .left))
+    sym (field-given (a .bytes .now) (a .at) (sym (c .before .before .before .before .read-number .ensures) ∙ ap outcomeOfRead (c .before .before .value .given .1)) (omega arith))
 
 pub read-field-spec : {M : Type 1} → statement M
 read-field-spec =

@@ -1,4 +1,8 @@
 -- The numbers written are those of the report of a day end. Assumes nothing.
+use native.Mathlib.Omega.{arith}
+use lib.ListN.{length-append}
+use Rattle.numbers.specs.Tests.{pick}
+use Rattle.numbers.specs.SevenBit.{groups, bytesOf, bytesOfAll}
 use Rattle.engine.specs.Records.{reportBytes}
 use borrow.Author.Needs.{needs}
 use Rattle.engine.proofs.report.write_day_ended.Statement.{statement}
@@ -8,8 +12,8 @@ slice-aggregate-put-numbers : tie.Need-slice-aggregate-put-numbers
 slice-aggregate-put-numbers c = search needs
 
 put-numbers-requires : tie.Need-put-numbers-requires
-unfolding reportBytes
-put-numbers-requires c κs = c .before .before .before .pre
+unfolding reportBytes bytesOfAll bytesOf groups pick
+put-numbers-requires c κs = simp length-append (omega (arith, simp length-append at (c .before .before .before .pre)))
 
 same-length : tie.Need-same-length
 same-length c = search needs
