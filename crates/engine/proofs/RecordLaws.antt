@@ -9,7 +9,7 @@ use lib.ListN.{length, getD, length-append}
 use borrow.Author.Tests.{le-leb, lt-leb, eq-eqb, ne-eqb}
 use Rattle.numbers.specs.Tests.{pick, All}
 use Rattle.numbers.specs.Answers.{Outcome, gives, refuses, Read}
-use Rattle.numbers.specs.SevenBit.{bytesOf, bytesOfAll, numberAt, Stands}
+use Rattle.numbers.specs.SevenBit.{IsByte, bytesOf, bytesOfAll, numberAt, Stands}
 use Rattle.numbers.proofs.TestLaws.{by-test}
 use Rattle.numbers.proofs.ByteLaws.{length-positive}
 use Rattle.numbers.proofs.PlaceLaws.{stands-none, stands-then, stands-front, stands-behind}
@@ -18,7 +18,7 @@ use Rattle.engine.specs.declared.Event.{Event}
 use Rattle.engine.specs.declared.Event.the-variants.{Entry as entry, Cancel as cancel, Bid as bid, Tape as tape, DayEnd as dayEnd}
 use Rattle.engine.specs.Reports.{Report, accepted, executed, cancelled, repriced, restrictionStarts, dayEnded}
 use Rattle.engine.specs.Records.{recordNumbers, reportNumbers, recordBytes, reportBytes, reportsBytes, highestField, byField, onField, fieldsAt, Form, onKind, byCount, byKind, formAt, recordFields, reportFields, eventOf, reportOf, readAs, recordAt, reportAt, onReport, byReport, reportsFrom, reportsUpTo}
-use Rattle.engine.specs.RoundTrips.{Word, Byte, StandsAs, ReadsOnly, RecordsReadBack, RecordsReadOnly, ReportsReadBack, ReportsReadOnly, AllReportsReadBack, AllReportsReadOnly}
+use Rattle.engine.specs.RoundTrips.{Word, StandsAs, ReadsOnly, RecordsReadBack, RecordsReadOnly, ReportsReadBack, ReportsReadOnly, AllReportsReadBack, AllReportsReadOnly}
 
 -- Fields
 
@@ -44,7 +44,7 @@ not-given e = let z : _≡_ {A = ℕ} 0 1 = cc in omega arith
 pub given : {A : Type 0} {x y : A} → gives x ≡ gives y → x ≡ y
 given e = cc
 
-module _ (bytes : List ℕ) (all : All Byte bytes) where
+module _ (bytes : List ℕ) (all : All IsByte bytes) where
   abbrev FieldsKnown : ℕ → ℕ → Outcome (Read (List ℕ)) → Type 0
   FieldsKnown n at o = (r : Read (List ℕ)) → o ≡ gives r → FieldsStand n bytes at r
 
@@ -85,7 +85,7 @@ pub record FormStands (count : ℕ → Option ℕ) (bytes : List ℕ) (at : ℕ)
   pub words : All Word (r .value .fields)
   pub stands : Stands bytes at (bytesOfAll (r .value .kind ∷ r .value .fields)) (r .end)
 
-module _ (count : ℕ → Option ℕ) (bytes : List ℕ) (all : All Byte bytes) where
+module _ (count : ℕ → Option ℕ) (bytes : List ℕ) (all : All IsByte bytes) where
   abbrev FormKnown : ℕ → Outcome (Read Form) → Type 0
   FormKnown at o = (r : Read Form) → o ≡ gives r → FormStands count bytes at r
 
@@ -212,25 +212,25 @@ report-unique = reads-only reportNumbers reportBytes reportFields reportOf (λ x
 
 -- Reports one after another
 
-kind-size : (k : ℕ) (xs : List ℕ) → 1 ≤ length (bytesOfAll (k ∷ xs))
+form-positive : (k : ℕ) (xs : List ℕ) → 1 ≤ length (bytesOfAll (k ∷ xs))
 unfolding bytesOfAll
-kind-size k xs = omega (arith, length-positive k, length-append (bytesOf k) (bytesOfAll xs))
+form-positive k xs = omega (arith, length-positive k, length-append (bytesOf k) (bytesOfAll xs))
 
 -- a report takes a byte or more
-report-size : (r : Report) → 1 ≤ length (reportBytes r)
+report-positive : (r : Report) → 1 ≤ length (reportBytes r)
 unfolding reportBytes
-report-size (accepted i s p) = kind-size 1 _
-report-size (executed x) = kind-size 2 _
-report-size (cancelled i q cause) = kind-size 3 _
-report-size (repriced i p s) = kind-size 4 _
-report-size restrictionStarts = kind-size 5 _
-report-size (dayEnded phase) = kind-size 6 _
+report-positive (accepted i s p) = form-positive 1 _
+report-positive (executed x) = form-positive 2 _
+report-positive (cancelled i q cause) = form-positive 3 _
+report-positive (repriced i p s) = form-positive 4 _
+report-positive restrictionStarts = form-positive 5 _
+report-positive (dayEnded phase) = form-positive 6 _
 
 -- so there are no more reports than bytes
 reports-count : (rs : List Report) → length rs ≤ length (reportsBytes rs)
 unfolding reportsBytes
 reports-count [] = omega arith
-reports-count (r ∷ rs) = omega (arith, report-size r, reports-count rs, length-append (reportBytes r) (reportsBytes rs))
+reports-count (r ∷ rs) = omega (arith, report-positive r, reports-count rs, length-append (reportBytes r) (reportsBytes rs))
 
 abbrev ReportWords : Report → Type 0
 ReportWords r = All Word (reportNumbers r)
@@ -244,14 +244,14 @@ reports-there {bytes} {at} {e} (suc n) (r ∷ rs) l h s =
     let m = at + length (reportBytes r) in
     let front : Stands bytes at (reportBytes r) m = stands-front (reportBytes r) (reportsBytes rs) s in
     let t : Stands bytes m (reportsBytes rs) e = stands-behind (reportBytes r) (reportsBytes rs) s in
-    rw (ne-eqb at e (λ q. omega (arith, report-size r, t .ends)), report-read-back bytes at (record { value = r; end = m }) (record { words = h .0; stands = front }), reports-there n rs (omega arith) (h .1) t)
+    rw (ne-eqb at e (λ q. omega (arith, report-positive r, t .ends)), report-read-back bytes at (record { value = r; end = m }) (record { words = h .0; stands = front }), reports-there n rs (omega arith) (h .1) t)
 
 pub all-reports-read-back : AllReportsReadBack
 unfolding reportsUpTo
 all-reports-read-back bytes count rs h = reports-there count rs (omega (arith, reports-count rs, h .1 .ends)) (h .0) (h .1)
 
 -- what was read stands there
-module _ (bytes : List ℕ) (all : All Byte bytes) (end : ℕ) where
+module _ (bytes : List ℕ) (all : All IsByte bytes) (end : ℕ) where
   abbrev Known : ℕ → List Report → Type 0
   Known at rs = All ReportWords rs × Stands bytes at (reportsBytes rs) end
 

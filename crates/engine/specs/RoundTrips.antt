@@ -1,11 +1,11 @@
 -- Round trips of event records and reports: of the definitions, and of the calls `read_record` and `write_record`. Assumes nothing.
-use Prim.Native.Nat.{ℕ, _≤_, _<_}
+use Prim.Native.Nat.{ℕ, _≤_}
 use mathlib.Core.Path.{_≡_}
 use mathlib.Core.List.{List}
 use mathlib.Core.Option.{some}
 use Rattle.numbers.specs.Tests.{All}
 use Rattle.numbers.specs.Answers.{Outcome, gives, Read}
-use Rattle.numbers.specs.SevenBit.{Stands, Written}
+use Rattle.numbers.specs.SevenBit.{IsByte, Stands, Written}
 use Rattle.engine.specs.declared.Event.{Event}
 use Rattle.engine.specs.declared.RecordRead.{RecordRead}
 use Rattle.engine.specs.declared.RecordRead.the-variants.{Record}
@@ -18,9 +18,6 @@ use Rattle.engine.specs.RecordAnswers.{outcomeOfRecordRead, outcomeOfRec
 -- "each field a 32-bit whole number"
 abbrev pub Word : ℕ → Type 0
 Word x = x ≤ highestField
-
-abbrev pub Byte : ℕ → Type 0
-Byte b = b < 256
 
 -- the bytes of x stand from an offset up to an end; each of its numbers is one of 32 bits
 pub record StandsAs {A : Type 0} (numbers bytesOf : A → List ℕ) (bytes : List ℕ) (at : ℕ) (r : Read A) : Type 0 where
@@ -35,7 +32,7 @@ ReadsBack {A} numbers bytesOf readAt =
 -- what is read there stands there: no other bytes read as it
 abbrev pub ReadsOnly : {A : Type 0} → (A → List ℕ) → (A → List ℕ) → (List ℕ → ℕ → Outcome (Read A)) → Type 0
 ReadsOnly {A} numbers bytesOf readAt =
-    (bytes : List ℕ) (at : ℕ) (r : Read A) → All Byte bytes → readAt bytes at ≡ gives r → StandsAs numbers bytesOf bytes at r
+    (bytes : List ℕ) (at : ℕ) (r : Read A) → All IsByte bytes → readAt bytes at ≡ gives r → StandsAs numbers bytesOf bytes at r
 
 -- the round trips of event records and of reports
 abbrev pub RecordsReadBack : Type 0
@@ -58,7 +55,7 @@ abbrev pub AllReportsReadBack : Type 0
 AllReportsReadBack = (bytes : List ℕ) (count : ℕ) (rs : List Report) → ReportsStand bytes count rs → reportsUpTo bytes count ≡ some rs
 
 abbrev pub AllReportsReadOnly : Type 0
-AllReportsReadOnly = (bytes : List ℕ) (count : ℕ) (rs : List Report) → All Byte bytes → reportsUpTo bytes count ≡ some rs → ReportsStand bytes count rs
+AllReportsReadOnly = (bytes : List ℕ) (count : ℕ) (rs : List Report) → All IsByte bytes → reportsUpTo bytes count ≡ some rs → ReportsStand bytes count rs
 
 -- Of the calls: what `read_record` and `write_record` ensure of their arguments, their answer and the buffer after
 
@@ -76,4 +73,4 @@ WrittenReadsBack =
 -- what was read is exactly what writing that event gives: the same end, and no byte is changed
 abbrev pub ReadIsWritten : Type 0
 ReadIsWritten =
-    (event : Event) (bytes after : List ℕ) (at end : ℕ) (answer : RecordWrite) → All Byte bytes → ReadCall bytes at (Record event end) → WriteCall event bytes at answer after → (answer ≡ End end) × (after ≡ bytes)
+    (event : Event) (bytes after : List ℕ) (at end : ℕ) (answer : RecordWrite) → All IsByte bytes → ReadCall bytes at (Record event end) → WriteCall event bytes at answer after → (answer ≡ End end) × (after ≡ bytes)

@@ -16,7 +16,7 @@ use Rattle.numbers.specs.Tests.{pick, All}
 use Rattle.numbers.specs.Answers.{Outcome, gives, refuses, Read}
 use Rattle.numbers.specs.declared.Group.{Group}
 use Rattle.numbers.specs.declared.Group.the-variants.{More, Last, Bad}
-use Rattle.numbers.specs.SevenBit.{bytesOf, judge, onGroup, byGroup, groupsAt, numberAt, Stands}
+use Rattle.numbers.specs.SevenBit.{IsByte, bytesOf, judge, onGroup, byGroup, groupsAt, numberAt, Stands}
 use Rattle.numbers.proofs.TestLaws.{by-test, nand-T, neqb, tests}
 use Rattle.numbers.proofs.PlaceLaws.{stands-first}
 use Rattle.numbers.proofs.ByteLaws.{bytes-last, bytes-more, length-last, length-more, length-positive}
@@ -90,9 +90,6 @@ not-a-front x y r s h k e =
     ap valueOf (sym (read-there x h (stands-first (bytesOf x) r)) ∙ ap (λ l. numberAt l 0) e ∙ read-there y k (stands-first (bytesOf y) s))
 
 -- What reads as a number is exactly its bytes
-
-abbrev pub IsByte : ℕ → Type 0
-IsByte b = b < 256
 
 -- what a reading says of the bytes from the place i on, k groups standing before them; r more may follow the first
 abbrev GroupsSay : ℕ → ℕ → ℕ → List ℕ → Outcome (Read ℕ) → Type 0

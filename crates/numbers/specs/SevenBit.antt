@@ -14,6 +14,9 @@ use Rattle.numbers.specs.declared.NumberRead.the-variants.{Value, Missin
 use Rattle.numbers.specs.declared.NumberWrite.{NumberWrite}
 use Rattle.numbers.specs.declared.NumberWrite.the-variants.{End, NoRoom}
 
+abbrev pub IsByte : ℕ → Type 0
+IsByte b = b < 256
+
 -- "groups of seven bits, low group first, 128 added to all but the last"; at most n groups before the last.
 -- The `let` keeps a check by computation from going on below the last group
 unfoldable pub groups : ℕ → ℕ → List ℕ

@@ -5,8 +5,8 @@ use mathlib.Core.Path.{_≡_, sym, _∙_}
 use lib.ListN.{length, getD}
 use borrow.Author.Needs.{needs}
 use Rattle.numbers.specs.declared.Group.the-variants.{More}
-use Rattle.numbers.specs.SevenBit.{judge}
-use Rattle.numbers.proofs.ReadLaws.{Reading, IsByte, reading-start, reading-missing, reading-bad, reading-last, reading-more, last-fits, more-high, more-fits, scale-fits}
+use Rattle.numbers.specs.SevenBit.{IsByte, judge}
+use Rattle.numbers.proofs.ReadLaws.{Reading, reading-start, reading-missing, reading-bad, reading-last, reading-more, last-fits, more-high, more-fits, scale-fits}
 use Rattle.numbers.proofs.read.read_number.Statement.{statement}
 use Rattle.numbers.proofs.read.read_number.Tie as tie
 
