@@ -14,8 +14,8 @@ pub extern "C" fn venue_record_check(bytes: &[u8]) -> u64
     ensures { λ r. ⌜ r ≡ endOrZero (recordAt (now (bytes .entry)) 0) ⌝ }
 {
     match record::read_record(bytes, 0) {
-        RecordRead::Refused(refusal) => 0,
-        RecordRead::Record { event, end } => end as u64,
+        RecordRead::Refused(_) => 0,
+        RecordRead::Record { event: _, end } => end as u64,
     }
 }
 

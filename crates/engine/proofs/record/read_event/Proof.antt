@@ -1,4 +1,5 @@
 -- The kind is judged by the count of its fields. Assumes nothing.
+use native.Mathlib.Omega.{arith}
 use borrow.Author.Tests.{ne-eqb, le-leb, lt-leb}
 use Rattle.numbers.specs.Tests.{pick}
 use Rattle.engine.specs.Records.{recordFields}
