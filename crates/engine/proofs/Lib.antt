@@ -11,6 +11,7 @@ pub mod EventKeeps
 pub mod Demand3Law
 pub mod SoundLaws
 pub mod ReachedLaws
+pub mod ReportWordLaws
 pub mod BoundLaws
 pub mod RecordLaws
 pub mod ReadingLaws

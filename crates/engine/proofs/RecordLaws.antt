@@ -18,7 +18,7 @@ use Rattle.engine.specs.declared.Event.{Event}
 use Rattle.engine.specs.declared.Event.the-variants.{Entry as entry, Cancel as cancel, Bid as bid, Tape as tape, DayEnd as dayEnd}
 use Rattle.engine.specs.Reports.{Report, accepted, executed, cancelled, repriced, restrictionStarts, dayEnded}
 use Rattle.engine.specs.Records.{recordNumbers, reportNumbers, recordBytes, reportBytes, reportsBytes, highestField, byField, onField, fieldsAt, Form, onKind, byCount, byKind, formAt, recordFields, reportFields, eventOf, reportOf, readAs, recordAt, reportAt, onReport, byReport, reportsFrom, reportsUpTo}
-use Rattle.engine.specs.RoundTrips.{Word, StandsAs, ReadsOnly, RecordsReadBack, RecordsReadOnly, ReportsReadBack, ReportsReadOnly, AllReportsReadBack, AllReportsReadOnly}
+use Rattle.engine.specs.RoundTrips.{Word, ReportWords, StandsAs, ReadsOnly, RecordsReadBack, RecordsReadOnly, ReportsReadBack, ReportsReadOnly, AllReportsReadBack, AllReportsReadOnly}
 
 -- Fields
 
@@ -231,9 +231,6 @@ reports-count : (rs : List Report) → length rs ≤ length (reportsBytes rs)
 unfolding reportsBytes
 reports-count [] = omega arith
 reports-count (r ∷ rs) = omega (arith, report-positive r, reports-count rs, length-append (reportBytes r) (reportsBytes rs))
-
-abbrev ReportWords : Report → Type 0
-ReportWords r = All Word (reportNumbers r)
 
 reports-there : {bytes : List ℕ} {at e : ℕ} (n : ℕ) (rs : List Report) → length rs ≤ n → All ReportWords rs → Stands bytes at (reportsBytes rs) e → reportsFrom n bytes e at ≡ some rs
 unfolding reportsFrom reportsBytes pick

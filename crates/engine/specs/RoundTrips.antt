@@ -47,9 +47,13 @@ ReportsReadBack = ReadsBack reportNumbers reportBytes reportAt
 abbrev pub ReportsReadOnly : Type 0
 ReportsReadOnly = ReadsOnly reportNumbers reportBytes reportAt
 
+-- each number of a report is one of 32 bits
+abbrev pub ReportWords : Report → Type 0
+ReportWords r = All Word (reportNumbers r)
+
 -- the same of reports one after another, at the front of a buffer: `count` is their byte count
 abbrev pub ReportsStand : List ℕ → ℕ → List Report → Type 0
-ReportsStand bytes count rs = All (λ (r : Report). All Word (reportNumbers r)) rs × Stands bytes 0 (reportsBytes rs) count
+ReportsStand bytes count rs = All ReportWords rs × Stands bytes 0 (reportsBytes rs) count
 
 abbrev pub AllReportsReadBack : Type 0
 AllReportsReadBack = (bytes : List ℕ) (count : ℕ) (rs : List Report) → ReportsStand bytes count rs → reportsUpTo bytes count ≡ some rs
