@@ -14,6 +14,7 @@ pub mod HoldsLaws
 pub mod RankLaws
 pub mod StepLaws
 pub mod StampLaws
+pub mod OrderConditionLaws
 pub mod SoundBookLaws
 pub mod SoundOrderLaws
 pub mod WalkLaws

@@ -17,3 +17,4 @@ pub mod RecordLaws
 pub mod ReadingLaws
 pub mod RecordCalls
 pub mod RecordExamples
+pub mod CallLaws

@@ -1,12 +1,25 @@
--- What an opened venue is. Assumes nothing.
+-- What an opened venue is, and what the words of open mean. Assumes nothing.
 use Prim.Native.Nat.{ℕ}
 use native.Mathlib.Omega.{arith}
-use mathlib.Core.Path.{_≡_}
+use mathlib.Core.Path.{_≡_, refl, ap, _∙_}
+use mathlib.Core.Bool.{not}
+use mathlib.Core.List.{List, [], _∷_}
 use lib.Dec.{T}
+use lib.ListN.{replicate, length-replicate}
 use Rattle.numbers.specs.Answers.{Outcome, gives, refuses}
-use Rattle.numbers.proofs.TestLaws.{by-test}
+use Rattle.numbers.specs.Tests.{every}
+use Rattle.numbers.proofs.TestLaws.{by-test, pick-yes, pick-no}
 use Rattle.prices.specs.Prices.{legal}
+use Rattle.book.specs.Sound.{idsRise, stampsDiffer}
+use Rattle.book.specs.Words.{isBook}
+use Rattle.book.proofs.WordLaws.{resting-tabulate, laidOut-isBook}
+use Rattle.engine.specs.declared.Event.{Event}
 use Rattle.engine.specs.Venue.{Venue, opened, opening}
+use Rattle.engine.specs.Sound.{sound}
+use Rattle.engine.specs.Refusals.{refuseUnless, refusal}
+use Rattle.engine.specs.Run.{stepUnless, step}
+use Rattle.engine.specs.Memory.{venueOf}
+use Rattle.engine.specs.Calls.{openedWords, stepIn}
 
 pub record Opened (close : ℕ) (v : Venue) : Type 0 where
   pub legal : T (legal close)
@@ -19,3 +32,48 @@ opening-known close v =
   where
     never : refuses 3 ≡ gives v → ⊥
     never e = let z : _≡_ {A = ℕ} 0 1 = cc in omega arith
+
+pub opening-gives : (close : ℕ) → T (legal close) → opening close ≡ gives (opened close)
+unfolding opening
+opening-gives close t = pick-yes (legal close) _ _ t
+
+-- the words with a close, and 0 elsewhere
+
+abbrev pub freshWords : ℕ → List ℕ
+freshWords x = 0 ∷ x ∷ replicate 3342 0
+
+fresh-book : (x : ℕ) → T (isBook (freshWords x))
+fresh-book x =
+    laidOut-isBook (freshWords x) (record { long = omega (arith, length-replicate {A = ℕ} 3342 0); few = omega arith; flags = λ i l. absurd (omega arith) })
+
+fresh-venue : (x : ℕ) → venueOf (freshWords x) ≡ opened x
+unfolding venueOf opened
+fresh-venue x = rw (resting-tabulate (freshWords x) 0 [] refl refl)
+
+opened-yes : (close : ℕ) → T (legal close) → openedWords close ≡ freshWords close
+unfolding openedWords
+opened-yes close t = pick-yes (legal close) _ _ t
+
+opened-no : (close : ℕ) → T (not (legal close)) → openedWords close ≡ freshWords 0
+unfolding openedWords
+opened-no close t = pick-no (legal close) _ _ t
+
+pub opened-book : (close : ℕ) → T (isBook (openedWords close))
+unfolding openedWords
+opened-book close = by-test (λ (w : List ℕ). T (isBook w)) (legal close) (λ t. fresh-book close) (λ t. fresh-book 0)
+
+pub opened-venue : (close : ℕ) → T (legal close) → venueOf (openedWords close) ≡ opened close
+opened-venue close t = ap venueOf (opened-yes close t) ∙ fresh-venue close
+
+-- the step of words that are a book
+pub step-in : (w : List ℕ) (e : Event) (n : ℕ) → T (isBook w) → stepIn w e n ≡ step (venueOf w) e n
+unfolding stepIn
+step-in w e n t = pick-yes (isBook w) _ _ t
+
+broken : (e : Event) (n : ℕ) → step (opened 0) e n .answer ≡ refuses 16
+unfolding step stepUnless refusal refuseUnless sound opened legal idsRise every stampsDiffer
+broken e n = refl
+
+-- the words that open leaves where it makes no venue are refused with 16
+pub not-opened : (close : ℕ) → T (not (legal close)) → (e : Event) (n : ℕ) → stepIn (openedWords close) e n .answer ≡ refuses 16
+not-opened close t e n = rw (opened-no close t, step-in (freshWords 0) e n (fresh-book 0), fresh-venue 0) (broken e n)

@@ -7,7 +7,6 @@ use mathlib.Core.List.{List, [], _∷_, _++_, map, foldl, List·Memᴰ}
 use lib.Dec.{T}
 use lib.ListN.{length, length-map}
 use Rattle.numbers.specs.Tests.{All}
-use Rattle.numbers.specs.Answers.{gives}
 use Rattle.numbers.proofs.TestLaws.{by-test, all-map, map-all}
 use Rattle.prices.specs.Prices.{legal, isBid}
 use Rattle.prices.proofs.PriceLaws.{legal-out}
@@ -25,16 +24,16 @@ use Rattle.engine.specs.declared.Remainder.the-variants.{Filled, Cancell
 use Rattle.engine.specs.declared.Move.{Move}
 use Rattle.engine.specs.declared.Move.the-variants.{Stay, Cancel, Reprice}
 use Rattle.engine.specs.Market.{marketAfter}
-use Rattle.engine.specs.Reports.{Report, accepted, executed, cancelled, repriced, restrictionStarts, dayEnded, askedFor, optOut, endOfDay}
-use Rattle.engine.specs.Working.{workingPrice, orderOf, remainder, afterRemainder, work}
-use Rattle.engine.specs.Pass.{Effect, atNewPrice, afterMove, passOne, passOver}
+use Rattle.engine.specs.Reports.{Report, executed, cancelled, optOut, endOfDay}
+use Rattle.engine.specs.Working.{remainder, afterRemainder, work}
+use Rattle.engine.specs.Pass.{Effect, afterMove, passOne, passOver}
 use Rattle.engine.specs.Venue.{Venue, effectOfEntry, effectOfCancel, thePass, restrictionReport, effectOfDayEnd, effectOf, lastIdAfter}
 use Rattle.engine.specs.Sound.{mostEvents}
-use Rattle.engine.specs.Refusals.{rests, refusal}
-use Rattle.engine.specs.Run.{stepUnless, step}
+use Rattle.engine.specs.Refusals.{rests}
 use Rattle.engine.specs.RoundTrips.{Word, ReportWords}
-use Rattle.engine.proofs.RefusalLaws.{Allowed, NotRefused, Unless, refusal-known}
-use Rattle.engine.proofs.SoundLaws.{MayWork, SoundBook, SoundWork, book-distinct, book-order, RemainderOf, remainder-known, meeting-sound, MoveSound, moveOf-sound, atNewPrice-sound, passOne-sound, SoundVenue, sound-venue, workingPrice-legal, orderOf-sound, marketAfter-sound}
+use Rattle.engine.proofs.RefusalLaws.{Allowed, NotRefused}
+use Rattle.book.proofs.OrderConditionLaws.{MayWork}
+use Rattle.engine.proofs.SoundLaws.{SoundBook, SoundWork, book-distinct, book-order, RemainderOf, remainder-known, meeting-sound, MoveSound, moveOf-sound, atNewPrice-sound, passOne-sound, SoundVenue, sound-venue, workingPrice-legal, orderOf-sound, marketAfter-sound}
 
 all-append : {A : Type 0} (P : A → Type 0) (xs ys : List A) → All P xs → All P ys → All P (xs ++ ys)
 all-append P [] ys h k = k

@@ -1,21 +1,21 @@
 -- The conditions of a venue record as facts, and that no event breaks those of the book and the market. Assumes nothing.
 use Prim.Native.Nat.{ℕ, _+_, _*_, _≤_, _<_, min}
 use native.Mathlib.Omega.{arith}
-use mathlib.Core.Path.{_≡_, refl, sym}
-use mathlib.Core.Bool.{Bool, true, not}
+use mathlib.Core.Path.{_≡_, refl}
+use mathlib.Core.Bool.{Bool, true}
 use mathlib.Core.Option.{Option, none, some}
 use mathlib.Core.List.{List, [], _∷_, map, List·Memᴰ}
-use lib.Dec.{T, eqb, leb→le, le→leb, eqb→eq}
+use lib.Dec.{T, leb→le, le→leb, eqb→eq}
 use lib.ListN.{length, length-map}
-use Rattle.numbers.specs.Tests.{pick, every, All}
-use Rattle.numbers.proofs.TestLaws.{by-test, and-T, T-and, Each, conj-T, T-conj, every-T, T-every, neqb, ne→T, eq→T, tests, all-map}
+use Rattle.numbers.specs.Tests.{pick, All}
+use Rattle.numbers.proofs.TestLaws.{by-test, Each, conj-T, T-conj, every-T, T-every, neqb, tests, all-map}
 use Rattle.prices.specs.Prices.{legal, isBid}
 use Rattle.prices.proofs.RestrictionLaws.{tape-phase, day-end-phase}
 use Rattle.prices.proofs.PriceLaws.{no-bid, max-legal, permitted-legal, max-bid-legal}
 use Rattle.book.specs.declared.Order.{Order}
-use Rattle.book.specs.Orders.{reduced, find, without}
+use Rattle.book.specs.Orders.{find, without}
 use Rattle.book.specs.Matching.{Matched, meeting, matching, afterTrade}
-use Rattle.book.specs.Sound.{mostShares, slideAllowed, stampsDiffer, orderConditions, soundOrder}
+use Rattle.book.specs.Sound.{soundOrder}
 use Rattle.book.proofs.OrderLaws.{idOf, stampOf, Other, Differ, Distinct, taken-all, all-taken, differ-taken, taken-length, mem-taken, insert-taken, without-all, without-other, without-differ, without-length, Found, find-found}
 use Rattle.book.proofs.RisingLaws.{Rises, idsRise-rises, rises-idsRise, rises-all, rises-distinct, rises-without, rises-insert, rises-afterTrade}
 use Rattle.book.proofs.MeetingLaws.{meeting-known}
@@ -34,78 +34,9 @@ use Rattle.engine.specs.Pass.{moveDown, slideOnce, slideDown, moveOf, at
 use Rattle.engine.specs.Venue.{Venue, thePass, effectOfEntry, effectOfCancel, effectOfDayEnd, effectOf, lastIdAfter}
 use Rattle.engine.specs.Sound.{mostOrders, mostEvents, venueConditions, sound}
 use Rattle.engine.specs.Refusals.{entryCodes, codesInRange}
+use Rattle.book.proofs.SoundBookLaws.{stampsDiffer-differ, differ-stampsDiffer}
+use Rattle.book.proofs.OrderConditionLaws.{FieldsSound, MayWork, MayRest, mayWork-reduced, mayRest-later, order-mayRest, mayRest-order}
 use Rattle.engine.proofs.RefusalLaws.{Allowed}
-
--- one order
-
--- what an order has from its entry on
-abbrev pub FieldsSound : Order → Type 0
-FieldsSound o =
-    record {
-      mark : o.mark ≤ 3;
-      limit : T (legal (o .limit));
-      show : o.show ≤ 1;
-      life : o.life ≤ 1;
-      slide : T (slideAllowed (o .mark) (o .slide));
-      entryBid : T (isBid (o .«entry_bid»));
-    }
-
--- an order that may work, and one that may rest; n is the last id and s the last stamp
-abbrev pub MayWork : ℕ → ℕ → Order → Type 0
-MayWork n s o =
-    record {
-      fields : FieldsSound o;
-      id : o.id ≤ n;
-      first : 1 ≤ o.stamp;
-      last : o.stamp ≤ s;
-      price : T (legal (o .price));
-      most : o.shares ≤ mostShares;
-    }
-
-abbrev pub MayRest : ℕ → ℕ → Order → Type 0
-MayRest n s o = record { works : MayWork n s o; least : 1 ≤ o.shares; day : o.life ≡ 0 }
-
--- the order with q shares less
-mayWork-reduced : (n s q : ℕ) (o : Order) → MayWork n s o → MayWork n s (reduced q o)
-mayWork-reduced n s q o h =
-    record { fields = h .fields; id = h .id; first = h .first; last = h .last; price = h .price; most = omega (arith, h .most) }
-
--- the same order under a later id and stamp
-mayRest-later : (n s m r : ℕ) → n ≤ m → s ≤ r → (o : Order) → MayRest n s o → MayRest m r o
-mayRest-later n s m r l k o h =
-    let w = h .works in
-    record {
-      works = record { fields = w .fields; id = omega (arith, w .id); first = w .first; last = omega (arith, w .last); price = w .price; most = w .most };
-      least = h .least;
-      day = h .day;
-    }
-
-order-mayRest : (n s : ℕ) (o : Order) → T (soundOrder n s o) → MayRest n s o
-unfolding soundOrder
-order-mayRest n s o t = go (conj-T (orderConditions n s o) t)
-  where
-    go : Each (orderConditions n s o) → MayRest n s o
-    go (id, (mark, (limit, (least, (most, (show, (life, (slide, (first, (last, (price, (entryBid, end)))))))))))) =
-        record {
-          works =
-              record {
-                fields = record { mark = leb→le _ _ mark; limit = limit; show = leb→le _ _ show; life = omega tests; slide = slide; entryBid = entryBid };
-                id = leb→le _ _ id;
-                first = leb→le _ _ first;
-                last = leb→le _ _ last;
-                price = price;
-                most = leb→le _ _ most;
-              };
-          least = leb→le _ _ least;
-          day = eqb→eq _ _ life;
-        }
-
-mayRest-order : (n s : ℕ) (o : Order) → MayRest n s o → T (soundOrder n s o)
-unfolding soundOrder
-mayRest-order n s o h =
-    let w = h .works in
-    let f = w .fields in
-    T-conj (orderConditions n s o) (le→leb _ _ (w .id), (le→leb _ _ (f .mark), (f .limit, (le→leb _ _ (h .least), (le→leb _ _ (w .most), (le→leb _ _ (f .show), (eq→T (h .day), (f .slide, (le→leb _ _ (w .first), (le→leb _ _ (w .last), (w .price, (f .entryBid, tt))))))))))))
 
 -- the book
 
@@ -291,21 +222,6 @@ pub record SoundVenue (v : Venue) : Type 0 where
   pub market : SoundMarket (v .market)
   pub events : v.acceptedEvents ≤ mostEvents
   pub stamps : v.lastStamp ≤ 256 * v.acceptedEvents
-
-stampsDiffer-differ : (os : List Order) → T (stampsDiffer os) → Differ stampOf os
-unfolding stampsDiffer
-stampsDiffer-differ [] t = tt
-stampsDiffer-differ (o ∷ os) t =
-    let f : Order → Bool = λ x. not (eqb (o .stamp) (x .stamp)) in
-    let r = and-T (every f os) (stampsDiffer os) t in
-    (all-map (λ x e z. neqb (o .stamp) (x .stamp) e (sym z)) os (every-T f os (r .0)), stampsDiffer-differ os (r .1))
-
-differ-stampsDiffer : (os : List Order) → Differ stampOf os → T (stampsDiffer os)
-unfolding stampsDiffer
-differ-stampsDiffer [] h = tt
-differ-stampsDiffer (o ∷ os) h =
-    let f : Order → Bool = λ x. not (eqb (o .stamp) (x .stamp)) in
-    T-and (every f os) (stampsDiffer os) (T-every f os (all-map (λ x e. ne→T (o .stamp) (x .stamp) (λ z. e (sym z))) os (h .0))) (differ-stampsDiffer os (h .1))
 
 pub sound-venue : (v : Venue) → T (sound v) → SoundVenue v
 unfolding sound

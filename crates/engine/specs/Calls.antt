@@ -138,14 +138,14 @@ abbrev pub reportsGot : HostCall → List ℕ
 reportsGot c = bytesGot (c .after) (c .answer)
 
 -- equal events, equal reports: two chains from the same close with the same events, whose buffers are long enough and hold anything, get equal
--- answers and equal report bytes, and leave equal resting orders
+-- answers and equal report bytes, and leave equal venues
 abbrev pub LongEnough : HostCall → Type 0
 LongEnough c = leastBuffer ≤ length (c .lent)
 
 pub record SameForBoth (cs ds : List HostCall) (w v : List ℕ) : Type 0 where
   pub answers : map (λ (c : HostCall). c .answer) cs ≡ map (λ (c : HostCall). c .answer) ds
   pub reports : map reportsGot cs ≡ map reportsGot ds
-  pub orders : resting w ≡ resting v
+  pub venue : venueOf w ≡ venueOf v
 
 abbrev pub EqualReports : Type 0
 EqualReports =
