@@ -18,3 +18,6 @@ pub mod ReadingLaws
 pub mod RecordCalls
 pub mod RecordExamples
 pub mod CallLaws
+pub mod StepLaws
+pub mod WorkingSteps
+pub mod SlideSteps

@@ -13,5 +13,6 @@ pub mod Reached
 pub mod Account
 pub mod Demand3
 pub mod Memory
+pub mod Steps
 pub mod Calls
 pub mod Examples

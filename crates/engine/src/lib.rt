@@ -3,6 +3,10 @@ pub mod host;
 pub mod record;
 pub mod refusals;
 pub mod report;
+mod slide;
+mod working;
+
+use book::Order;
 
 // The close, the phase of the restriction and the national bid.
 pub struct Market {
@@ -46,6 +50,18 @@ pub enum Move {
     Stay,
     Cancel,
     Reprice(u32, bool),
+}
+
+// What is left of a working order, and the offset behind its reports.
+pub struct WorkingOrder {
+    pub rest: Order,
+    pub end: usize,
+}
+
+// The offset behind the reports of the pass, or of a part of it, and the last stamp.
+pub struct Passed {
+    pub end: usize,
+    pub stamp: u32,
 }
 
 // Why no event record stands at an offset: a byte is missing, a number is bad, the kind is none, or a field is above 32 bits.

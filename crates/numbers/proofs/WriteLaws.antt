@@ -2,8 +2,8 @@
 use Prim.Native.Nat.{ℕ, suc, _+_, _^_, _/_, _%_, _≤_, _<_}
 use native.Mathlib.Omega.{arith}
 use mathlib.Core.Path.{_≡_, refl, sym, ap, _∙_, subst}
-use mathlib.Core.List.{List, [], _∷_, _++_}
-use lib.ListN.{length, set, length-append}
+use mathlib.Core.List.{List, [], _∷_, _++_, append-nil}
+use lib.ListN.{length, set, take, drop, length-append, take-append-drop}
 use lib.Seq.{sets, length-sets}
 use mathlib.Core.Bool.{Bool, true, false}
 use lib.Dec.{leb}
@@ -13,7 +13,7 @@ use Rattle.numbers.specs.Tests.{pick}
 use Rattle.numbers.specs.Answers.{gives, refuses}
 use Rattle.numbers.specs.SevenBit.{bytesOf, numberAt, Stands, overwrite, Put, Written}
 use Rattle.numbers.proofs.ByteLaws.{bytes-last, bytes-more}
-use Rattle.numbers.proofs.PlaceLaws.{overwrite-sets, overwrite-stands}
+use Rattle.numbers.proofs.PlaceLaws.{overwrite-sets, length-overwrite, overwrite-stands}
 use Rattle.numbers.proofs.ReadLaws.{number, read-there}
 
 -- one group written, and the last one
@@ -48,6 +48,26 @@ module _ {before all bytes : List ℕ} {at i : ℕ} (room : at + length all ≤ 
 
   pub remaining-none : Remaining before at all bytes i [] → Put all at before i bytes
   remaining-none r = record { ends = omega (arith, r .ends); leaves = sym (overwrite-sets before at all room ∙ r .same) }
+
+-- nothing put, and one thing put after another
+pub put-none : (before : List ℕ) (at : ℕ) → Put [] at before at before
+unfolding overwrite
+put-none before at =
+    let e : at + 0 ≡ at = omega arith in
+    record { ends = omega arith; leaves = sym (ap (λ n. take at before ++ drop n before) e ∙ take-append-drop at before) }
+
+module _ {x before middle : List ℕ} {at m : ℕ} (y : List ℕ) (room : at + length (x ++ y) ≤ length before) (p : Put x at before m middle) where
+  behind : Remaining before at (x ++ y) middle m y
+  behind = remaining-put room x y (remaining-all before at (x ++ y)) p
+
+  pub put-room : m + length y ≤ length middle
+  put-room = omega (arith, room, behind .ends, behind .long)
+
+  pub put-then : {after : List ℕ} {e : ℕ} → Put y m middle e after → Put (x ++ y) at before e after
+  put-then q = remaining-none room (remaining-put room y [] (subst (λ l. Remaining before at (x ++ y) middle m l) (sym (append-nil y)) behind) q)
+
+pub put-length : {x before after : List ℕ} {at e : ℕ} → at + length x ≤ length before → Put x at before e after → length after ≡ length before
+put-length {x} {before} {after} {at} room p = ap length (p .leaves) ∙ length-overwrite before at x room
 
 -- what a test of the count of the bytes says of them
 pub room : (new : List ℕ) (at len : ℕ) {n : ℕ} {t : Bool} → n ≡ length new → t ≡ leb (at + n) len → t ≡ true → at + length new ≤ len

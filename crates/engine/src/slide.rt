@@ -1,0 +1,213 @@
+// The pass: where restricted orders go when the bid or the phase has changed, lowest id first.
+use crate::Market;
+use crate::Move;
+use crate::Passed;
+use crate::report;
+use crate::working;
+use book::Order;
+use book::Position;
+use book::place;
+use book::search;
+use book::words;
+ghost use mathlib.Core.Path.{_≡_};
+ghost use Prim.Native.Nat.{_+_, _<_, _≤_};
+ghost use mathlib.Core.Bool.{_&&_, not};
+ghost use lib.Dec.{T, leb};
+ghost use lib.ListN.{length, getD};
+ghost use Rattle.prices.specs.Prices.{isBid};
+ghost use Rattle.book.specs.Orders.{without};
+ghost use Rattle.book.specs.Words.{emptyOrder, resting, Book};
+ghost use Rattle.engine.specs.Working;
+ghost use Rattle.engine.specs.Pass.{displayedClear, moveDown, slideOnce, slideDown, moveOf, atNewPrice, afterMove, passOver};
+ghost use Rattle.engine.specs.Memory.{Ordered, Room, Does, DoesEffect};
+ghost use Rattle.engine.specs.Steps.{moveInPass, repricedReports, turnOf, idsOf, StartsWithIds};
+
+// Whether an order is displayed and clear.
+fn displayed_clear(o: Order) -> bool
+    ensures { λ r. ⌜ r ≡ displayedClear o ⌝ }
+{
+    if o.show == 1 {
+        return o.clear;
+    }
+    false
+}
+
+// To a price, if that is lower.
+fn move_down(price: u32, used: bool, o: Order) -> Move
+    ensures { λ r. ⌜ r ≡ moveDown price used o ⌝ }
+{
+    if price < o.price {
+        return Move::Reprice(price, used);
+    }
+    Move::Stay
+}
+
+// Where an adjusted order with slide once goes.
+fn slide_once(m: Market, o: Order) -> Move
+    ensures { λ r. ⌜ r ≡ slideOnce m o ⌝ }
+{
+    if o.used {
+        return Move::Stay;
+    }
+    let price = working::larger(o.limit, o.entry_bid);
+    if m.bid < price {
+        return move_down(price, true, o);
+    }
+    Move::Stay
+}
+
+// Where an adjusted order goes that may keep its price.
+fn slide_down(m: Market, o: Order) -> Move
+    requires { ⌜ T (isBid (m .bid)) ⌝ }
+    ensures { λ r. ⌜ r ≡ slideDown m o ⌝ }
+{
+    if o.slide == 0 {
+        return move_down(
+            working::larger(o.limit, working::permitted_now(m)),
+            o.used,
+            o,
+        );
+    }
+    if o.slide == 1 {
+        return slide_once(m, o);
+    }
+    Move::Stay
+}
+
+// Whether a restricted order may not keep its price: it is at or below the bid, and not displayed or not clear.
+fn price_barred(m: Market, o: Order) -> bool
+    ensures { λ r. ⌜ r ≡ (leb (o .price) (m .bid) && not (displayedClear o)) ⌝ }
+{
+    if o.price <= m.bid {
+        return !displayed_clear(o);
+    }
+    false
+}
+
+// Where a restricted order goes.
+fn move_of(m: Market, o: Order) -> Move
+    requires { ⌜ T (isBid (m .bid)) ⌝ }
+    ensures { λ r. ⌜ r ≡ moveOf m o ⌝ }
+{
+    if price_barred(m, o) {
+        if o.slide == 3 {
+            return Move::Cancel;
+        }
+        return Move::Reprice(working::permitted_now(m), o.used);
+    }
+    if o.adjusted {
+        return slide_down(m, o);
+    }
+    Move::Stay
+}
+
+// Where an order of any mark goes.
+fn move_in_pass(m: Market, o: Order) -> Move
+    requires { ⌜ T (isBid (m .bid)) ⌝ }
+    ensures { λ r. ⌜ r ≡ moveInPass m o ⌝ }
+{
+    if working::restricted(m, o.mark) {
+        return move_of(m, o);
+    }
+    Move::Stay
+}
+
+// The order at a new price, with a new stamp.
+fn at_new_price(price: u32, stamp: u32, used: bool, o: Order) -> Order
+    ensures { λ r. ⌜ r ≡ atNewPrice price stamp used o ⌝ }
+{
+    let mut r = o;
+    r.price = price;
+    r.stamp = stamp;
+    r.adjusted = true;
+    r.used = used;
+    r.clear = true;
+    r
+}
+
+// The order x, that was at position i, works at its new price.
+fn reprice(w: &mut [u32], reports: &mut [u8], at: usize, i: usize, x: Order) -> usize
+    requires { ⌜ Ordered (now w) × (i < length (resting (now w))) × (x .id ≡ (getD (resting (now w)) i emptyOrder) .id) ⌝ }
+    requires { ⌜ Room (now reports) at (repricedReports x (without (x .id) (resting (now w)))) ⌝ }
+    ensures { λ r. ⌜ Does (now (w .entry)) (now (w .exit)) (now (reports .entry)) (now (reports .exit)) at (Working.work x (without (x .id) (resting (now (w .entry)))) .orders) (repricedReports x (without (x .id) (resting (now (w .entry))))) r ⌝ }
+{
+    place::remove(w, i);
+    let end = report::write_repriced(reports, at, x.id, x.price, x.stamp);
+    working::work(w, reports, end, x)
+}
+
+// The order o, which is at position i, is moved.
+fn make_move(
+    w: &mut [u32],
+    reports: &mut [u8],
+    at: usize,
+    i: usize,
+    o: Order,
+    made: Move,
+    stamp: u32,
+) -> Passed
+    requires { ⌜ Ordered (now w) × (i < length (resting (now w))) × (o ≡ getD (resting (now w)) i emptyOrder) × (stamp < 4294967295) ⌝ }
+    requires { ⌜ Room (now reports) at (afterMove made o (resting (now w)) stamp .reports) ⌝ }
+    ensures { λ r. ⌜ DoesEffect (now (w .entry)) (now (w .exit)) (now (reports .entry)) (now (reports .exit)) at (afterMove made o (resting (now (w .entry))) stamp) (r .end) (r .stamp) ⌝ }
+{
+    match made {
+        Move::Stay => Passed { end: at, stamp },
+        Move::Cancel => {
+            let end = report::write_cancelled(reports, at, o.id, o.shares, working::OPT_OUT);
+            place::remove(w, i);
+            Passed { end, stamp }
+        },
+        Move::Reprice(price, used) => {
+            let next = stamp + 1;
+            let end = reprice(w, reports, at, i, at_new_price(price, next, used, o));
+            Passed { end, stamp: next }
+        },
+    }
+}
+
+// The turn of the order with an id; one that no longer rests is skipped.
+fn turn(w: &mut [u32], reports: &mut [u8], at: usize, m: Market, id: u32, stamp: u32) -> Passed
+    requires { ⌜ Ordered (now w) × T (isBid (m .bid)) × (stamp < 4294967295) × Room (now reports) at (turnOf m id (resting (now w)) stamp .reports) ⌝ }
+    ensures { λ r. ⌜ DoesEffect (now (w .entry)) (now (w .exit)) (now (reports .entry)) (now (reports .exit)) at (turnOf m id (resting (now (w .entry))) stamp) (r .end) (r .stamp) ⌝ }
+{
+    let Position::At(i) = search::find(w, id) else {
+        return Passed { end: at, stamp };
+    };
+    let o = words::load(w, i);
+    let made = move_in_pass(m, o);
+    make_move(w, reports, at, i, o, made, stamp)
+}
+
+// The ids of the resting orders, at the front.
+fn resting_ids(w: &[u32]) -> [u32; 256]
+    requires { ⌜ Book (now w) ⌝ }
+    ensures { λ r. ⌜ StartsWithIds r (resting (now (w .entry))) ⌝ }
+{
+    let mut ids = [0u32; 256];
+    let count = words::count(w);
+    let mut i = 0;
+    while i < count {
+        ids[i] = search::id_at(w, i);
+        i += 1;
+    }
+    ids
+}
+
+// The pass over the orders then resting.
+pub(crate) fn pass(w: &mut [u32], reports: &mut [u8], at: usize, m: Market, stamp: u32) -> Passed
+    requires { ⌜ Ordered (now w) × T (isBid (m .bid)) × (stamp + 256 < 4294967296) × Room (now reports) at (passOver m (idsOf (resting (now w))) (resting (now w)) stamp .reports) ⌝ }
+    ensures { λ r. ⌜ DoesEffect (now (w .entry)) (now (w .exit)) (now (reports .entry)) (now (reports .exit)) at (passOver m (idsOf (resting (now (w .entry)))) (resting (now (w .entry))) stamp) (r .end) (r .stamp) ⌝ }
+{
+    let count = words::count(w);
+    let ids = resting_ids(w);
+    let mut end = at;
+    let mut last = stamp;
+    let mut i = 0;
+    while i < count {
+        let turned = turn(w, reports, end, m, ids[i], last);
+        end = turned.end;
+        last = turned.stamp;
+        i += 1;
+    }
+    Passed { end, stamp: last }
+}

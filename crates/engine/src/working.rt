@@ -1,0 +1,204 @@
+// A working order: its price, its matching, and what becomes of its remainder.
+use crate::Entry;
+use crate::Market;
+use crate::Remainder;
+use crate::WorkingOrder;
+use crate::report;
+use book::Order;
+use book::Position;
+use book::place;
+use book::priority;
+use book::trade;
+use book::words;
+use prices::PriceAnswer;
+use prices::increments;
+use prices::restriction;
+ghost use mathlib.Core.Path.{_≡_};
+ghost use Prim.Native.Nat.{_+_, _<_, _≤_, min, max};
+ghost use mathlib.Core.List.{[], _∷_};
+ghost use lib.Dec.{T};
+ghost use lib.ListN.{length, getD};
+ghost use Rattle.numbers.specs.SevenBit.{Put};
+ghost use Rattle.prices.specs.Prices.{isBid};
+ghost use Rattle.book.specs.Matching;
+ghost use Rattle.book.specs.Words.{emptyOrder, resting, Book};
+ghost use Rattle.book.specs.Positions.{Found};
+ghost use Rattle.engine.specs.Market.{permittedNow};
+ghost use Rattle.engine.specs.Reports.{executed};
+ghost use Rattle.engine.specs.Records.{reportBytes};
+ghost use Rattle.engine.specs.Working.{workingPrice, orderOf, remainder};
+ghost use Rattle.engine.specs.Memory.{Ordered, Room, Does};
+ghost use Rattle.engine.specs.Steps.{MayEnter, Meets, executionReports, Matches, settled};
+
+const IMMEDIATE_OR_CANCEL: u32 = 2;
+
+pub(crate) const OPT_OUT: u32 = 3;
+
+fn smaller(a: u32, b: u32) -> u32
+    ensures { λ r. ⌜ r ≡ min a b ⌝ }
+{
+    if a <= b {
+        return a;
+    }
+    b
+}
+
+pub(crate) fn larger(a: u32, b: u32) -> u32
+    ensures { λ r. ⌜ r ≡ max a b ⌝ }
+{
+    if a <= b {
+        return b;
+    }
+    a
+}
+
+// Whether an order of a mark is restricted.
+pub(crate) fn restricted(m: Market, mark: u32) -> bool
+    ensures { λ r. ⌜ r ≡ Rattle.engine.specs.Market.restricted m mark ⌝ }
+{
+    if restriction::restriction_on(m.phase) {
+        return mark == 2;
+    }
+    false
+}
+
+// The permitted price of the bid in force.
+pub(crate) fn permitted_now(m: Market) -> u32
+    requires { ⌜ T (isBid (m .bid)) ⌝ }
+    ensures { λ r. ⌜ r ≡ permittedNow m ⌝ }
+{
+    match increments::permitted_price(m.bid) {
+        PriceAnswer::NotLegal => 0,
+        PriceAnswer::Legal(price) => price.value,
+    }
+}
+
+// The price that an entry works at.
+pub(crate) fn working_price(m: Market, e: Entry) -> u32
+    requires { ⌜ T (isBid (m .bid)) ⌝ }
+    ensures { λ r. ⌜ r ≡ workingPrice m e ⌝ }
+{
+    if restricted(m, e.mark) {
+        return larger(e.price, permitted_now(m));
+    }
+    e.price
+}
+
+// The order of an entry, with its stamp.
+pub(crate) fn order_of(m: Market, stamp: u32, e: Entry) -> Order
+    requires { ⌜ T (isBid (m .bid)) ⌝ }
+    ensures { λ r. ⌜ r ≡ orderOf m stamp e ⌝ }
+{
+    let price = working_price(m, e);
+    Order {
+        id: e.id,
+        mark: e.mark,
+        limit: e.price,
+        shares: e.shares,
+        show: e.show,
+        life: e.life,
+        slide: e.slide,
+        stamp,
+        price,
+        entry_bid: m.bid,
+        adjusted: e.price < price,
+        used: false,
+        clear: m.bid < price,
+    }
+}
+
+// Writes the report that the working order o traded q shares with the resting order x.
+fn write_execution(reports: &mut [u8], at: usize, o: Order, x: Order, q: u32) -> usize
+    requires { ⌜ at + length (reportBytes (executed (Matching.execution o x q))) ≤ length (now reports) ⌝ }
+    ensures { λ r. ⌜ Put (reportBytes (executed (Matching.execution o x q))) at (now (reports .entry)) r (now (reports .exit)) ⌝ }
+{
+    if o.mark == 0 {
+        return report::write_executed(reports, at, o.id, x.id, x.price, q);
+    }
+    report::write_executed(reports, at, x.id, o.id, x.price, q)
+}
+
+// Where the order stands that o trades with next: nowhere once no shares remain.
+fn counterparty(w: &[u32], o: Order) -> Position
+    requires { ⌜ Book (now w) ⌝ }
+    ensures { λ r. ⌜ Found (resting (now (w .entry))) r (Matching.counterparty o (resting (now (w .entry)))) ⌝ }
+{
+    if o.shares == 0 {
+        return Position::Absent;
+    }
+    priority::best(w, o)
+}
+
+// One meeting: o trades with the order at position i.
+fn meet(w: &mut [u32], reports: &mut [u8], at: usize, o: Order, i: usize) -> WorkingOrder
+    requires { ⌜ Ordered (now w) × (i < length (resting (now w))) ⌝ }
+    requires { ⌜ Room (now reports) at (executed (Matching.meeting o (getD (resting (now w)) i emptyOrder) (resting (now w)) .execution) ∷ []) ⌝ }
+    ensures { λ r. ⌜ Meets (now (w .entry)) (now (w .exit)) (now (reports .entry)) (now (reports .exit)) at (Matching.meeting o (getD (resting (now (w .entry))) i emptyOrder) (resting (now (w .entry)))) (r .rest) (r .end) ⌝ }
+{
+    let x = words::load(w, i);
+    let q = smaller(o.shares, x.shares);
+    let end = write_execution(reports, at, o, x, q);
+    trade::trade(w, i, q);
+    let rest = trade::reduce(o, q);
+    WorkingOrder { rest, end }
+}
+
+// Trades o with the orders that it reaches, best first.
+fn match_order(w: &mut [u32], reports: &mut [u8], at: usize, o: Order) -> WorkingOrder
+    requires { ⌜ MayEnter o (now w) × Room (now reports) at (executionReports (Matching.matching o (resting (now w)))) ⌝ }
+    ensures { λ r. ⌜ Matches (now (w .entry)) (now (w .exit)) (now (reports .entry)) (now (reports .exit)) at o (r .rest) (r .end) ⌝ }
+{
+    let mut rest = o;
+    let mut end = at;
+    while let Position::At(i) = counterparty(w, rest) {
+        let met = meet(w, reports, end, rest, i);
+        rest = met.rest;
+        end = met.end;
+    }
+    WorkingOrder { rest, end }
+}
+
+// What becomes of a remainder.
+pub(crate) fn remainder_of(o: Order) -> Remainder
+    ensures { λ r. ⌜ r ≡ remainder o ⌝ }
+{
+    if o.shares == 0 {
+        return Remainder::Filled;
+    }
+    if o.life == 1 {
+        return Remainder::Cancelled(IMMEDIATE_OR_CANCEL);
+    }
+    if o.adjusted {
+        if o.slide == 3 {
+            return Remainder::Cancelled(OPT_OUT);
+        }
+        return Remainder::Rests;
+    }
+    Remainder::Rests
+}
+
+// Cancels a remainder, or lets it rest.
+fn settle(w: &mut [u32], reports: &mut [u8], at: usize, o: Order) -> usize
+    requires { ⌜ MayEnter o (now w) × Room (now reports) at (settled o (resting (now w)) .reports) ⌝ }
+    ensures { λ r. ⌜ Does (now (w .entry)) (now (w .exit)) (now (reports .entry)) (now (reports .exit)) at (settled o (resting (now (w .entry))) .orders) (settled o (resting (now (w .entry))) .reports) r ⌝ }
+{
+    match remainder_of(o) {
+        Remainder::Filled => at,
+        Remainder::Cancelled(cause) => report::write_cancelled(reports, at, o.id, o.shares, cause),
+        Remainder::Rests => {
+            place::insert(w, o);
+            at
+        },
+    }
+}
+
+// The order o works: it matches, and its remainder is cancelled or rests.
+pub(crate) fn work(w: &mut [u32], reports: &mut [u8], at: usize, o: Order) -> usize
+    requires { ⌜ MayEnter o (now w) × Room (now reports) at (Rattle.engine.specs.Working.work o (resting (now w)) .reports) ⌝ }
+    ensures { λ r. ⌜ Does (now (w .entry)) (now (w .exit)) (now (reports .entry)) (now (reports .exit)) at (Rattle.engine.specs.Working.work o (resting (now (w .entry))) .orders) (Rattle.engine.specs.Working.work o (resting (now (w .entry))) .reports) r ⌝ }
+{
+    let matched = match_order(w, reports, at, o);
+    let rest = matched.rest;
+    let end = matched.end;
+    settle(w, reports, end, rest)
+}
