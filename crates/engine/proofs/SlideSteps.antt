@@ -31,8 +31,8 @@ use Rattle.engine.specs.Steps.{MayEnter, moveInPass, repricedReports, tu
 use Rattle.engine.proofs.StepLaws.{put-one, room-as, room-first, room-one, room-then, ordered-rises, ordered-distinct, holds-ordered, holds-header, does-as, does-then, at-member, Underway, underway-start, underway-as, underway-room, underway-then, underway-end}
 
 -- an order is taken out, with a report or none
-pub does-without : {w w′ b b′ : List ℕ} {at e : ℕ} {i : ℕ} {rs : List Report} → Ordered w → Holds w w′ (without i (resting w)) → Does w w b b′ at (resting w) rs e → Does w w′ b b′ at (without i (resting w)) rs e
-does-without {w} {i = i} o h d =
+pub does-without : {w w′ b b′ : List ℕ} {at e : ℕ} {rs : List Report} (i : ℕ) → Ordered w → Holds w w′ (without i (resting w)) → Does w w b b′ at (resting w) rs e → Does w w′ b b′ at (without i (resting w)) rs e
+does-without {w} i o h d =
     record { ordered = holds-ordered h (rises-without 0 i (resting w) (ordered-rises o)); same = holds-header h; orders = h .rests; wrote = d .wrote }
 
 -- the order x, that was at i, works at its new price
@@ -81,7 +81,7 @@ pub move-room : (b : List ℕ) (at : ℕ) {v made : Move} (o : Order) (os : List
 move-room b at o os s q h = room-as b at (ap (λ (z : Move). afterMove z o os s .reports) q) h
 
 -- re-pricing, where x is the order at its new price
-module _ {x o : Order} {p s : ℕ} (u : Bool) (os : List Order) (e : x ≡ atNewPrice p (s + 1) u o) where
+module _ (x o : Order) (p s : ℕ) (u : Bool) (os : List Order) (e : x ≡ atNewPrice p (s + 1) u o) where
   pub new-price-reports : repricedReports x (without (x .id) os) ≡ afterMove (Reprice p u) o os s .reports
   unfolding afterMove
   new-price-reports = ap (λ (z : Order). repricedReports z (without (z .id) os)) e

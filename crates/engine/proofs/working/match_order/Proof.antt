@@ -28,21 +28,21 @@ enum-known-i : tie.Need-enum-known-i Inv-loop μ-loop
 enum-known-i c = search needs
 
 meet-requires : tie.Need-meet-requires Inv-loop μ-loop
-meet-requires c κs = 
+meet-requires c κs =
     let f = c .before .before .before .before .before .before .before .loop in
     let l = resting (f .w) in
     let found : counterparty (f .rest) l ≡ some (getD l (c .before .before .before .i .given .0 .0) emptyOrder) = sym (c .before .before .before .before .before .counterparty .ensures .is) ∙ ap (orderIn l) (c .before .before .before .i .given .1) in
     ((f .inv .enters .ordered, subst (λ (p : Position). Below p (length l)) (c .before .before .before .i .given .1) (c .before .before .before .before .before .counterparty .ensures .below)), matching-room _ (f .inv) found (c .before .before .before .before .before .before .before .before .before .before .pre .1))
 
 loop-less : tie.Need-loop-less Inv-loop μ-loop
-loop-less c = 
+loop-less c =
     let f = c .before .before .before .before .before .before .before .before .before .before .before .before .before .loop in
     let l = resting (f .w) in
     let found : counterparty (f .rest) l ≡ some (getD l (c .before .before .before .before .before .before .before .before .before .i .given .0 .0) emptyOrder) = sym (c .before .before .before .before .before .before .before .before .before .before .before .counterparty .ensures .is) ∙ ap (orderIn l) (c .before .before .before .before .before .before .before .before .before .i .given .1) in
     matching-less _ (f .inv) found (c .before .before .before .before .before .meet .ensures)
 
 loop-again : tie.Need-loop-again Inv-loop μ-loop
-loop-again c = 
+loop-again c =
     let f = c .before .before .before .before .before .before .before .before .before .before .before .before .before .loop in
     let l = resting (f .w) in
     let found : counterparty (f .rest) l ≡ some (getD l (c .before .before .before .before .before .before .before .before .before .i .given .0 .0) emptyOrder) = sym (c .before .before .before .before .before .before .before .before .before .before .before .counterparty .ensures .is) ∙ ap (orderIn l) (c .before .before .before .before .before .before .before .before .before .i .given .1) in

@@ -20,7 +20,7 @@ enum-known-cause c = search needs
 
 write-cancelled-requires : tie.Need-write-cancelled-requires
 unfolding afterRemainder
-write-cancelled-requires c κs = 
+write-cancelled-requires c κs =
     let s = c .before .before .before .before .before .before .before in
     let a = s .args in
     let w = a .w .now in
@@ -36,7 +36,7 @@ insert-requires c κs = (c .before .before .before .before .before .before .pre 
 
 returns : tie.Need-returns
 unfolding afterRemainder
-returns c = 
+returns c =
     let s = c .before .before .before .before .before in
     let a = s .args in
     let w = a .w .now in
@@ -48,7 +48,7 @@ same-length c = search needs
 
 returns-2 : tie.Need-returns-2
 unfolding afterRemainder
-returns-2 c = 
+returns-2 c =
     let s = c .before .before .before .before .before .before .before .before .before .before in
     let a = s .args in
     let w = a .w .now in
@@ -61,7 +61,7 @@ same-length-2 c = search needs
 
 returns-3 : tie.Need-returns-3
 unfolding afterRemainder
-returns-3 c = 
+returns-3 c =
     let s = c .before .before .before .before .before .before .before .before .before in
     let a = s .args in
     let w = a .w .now in

@@ -1,0 +1,64 @@
+-- The move of the order that is found, or none. Assumes nothing.
+use mathlib.Core.Path.{_≡_, refl, sym, ap, _∙_, subst}
+use mathlib.Core.Option.{some}
+use lib.ListN.{length}
+use Rattle.book.specs.declared.Position.{Position}
+use Rattle.book.specs.Orders.{find}
+use Rattle.book.specs.Words.{resting}
+use Rattle.book.specs.Positions.{orderIn, Below}
+use Rattle.engine.specs.Pass.{Effect}
+use Rattle.engine.proofs.StepLaws.{room-as, does-none, effect-as}
+use Rattle.engine.proofs.SlideSteps.{turn-found, turn-absent}
+use borrow.Author.Needs.{needs}
+use Rattle.engine.proofs.slide.turn.Statement.{statement}
+use Rattle.engine.proofs.slide.turn.Tie as tie
+
+find-requires : tie.Need-find-requires
+find-requires c κs = (c .before .before .before .pre .0 .book, c .before .before .before .pre .0 .rises)
+
+enum-known-i : tie.Need-enum-known-i
+enum-known-i c = search needs
+
+enum-told : tie.Need-enum-told
+enum-told c = search needs
+
+same-length : tie.Need-same-length
+same-length c = search needs
+
+returns : tie.Need-returns
+returns c =
+    let s = c .before .before .before .before .before .before in
+    let a = s .args in
+    let l = resting (a .w .now) in
+    effect-as (turn-absent (a .m) (a .id) l (a .stamp) (sym (c .before .before .find .ensures .is) ∙ ap (orderIn l) (c .enum-told .given .1))) (record { does = does-none (a .w .now) (a .reports .now) (a .at) (s .pre .0); stamped = refl })
+
+load-requires : tie.Need-load-requires
+load-requires c κs = (c .before .before .before .before .before .before .before .before .pre .0 .book, subst (λ (p : Position). Below p (length (resting (c .before .before .before .before .before .before .before .before .args .w .now)))) (c .before .before .i .given .1) (c .before .before .before .before .find .ensures .below))
+
+move-in-pass-requires : tie.Need-move-in-pass-requires
+move-in-pass-requires c κs = c .before .before .before .before .before .before .before .before .before .pre .1
+
+make-move-requires : tie.Need-make-move-requires
+make-move-requires c κs =
+    let s = c .before .before .before .before .before .before .before .before .before .before .before .before in
+    let a = s .args in
+    let l = resting (a .w .now) in
+    let e : find (a .id) l ≡ some (c .before .before .before .load .result) = sym (c .before .before .before .before .before .before .before .before .find .ensures .is) ∙ ap (orderIn l) (c .before .before .before .before .before .before .i .given .1) ∙ ap some (sym (c .before .before .before .load .ensures)) in
+    ((s .pre .0, subst (λ (p : Position). Below p (length (resting (c .before .before .before .before .before .before .before .before .before .before .before .before .args .w .now)))) (c .before .before .before .before .before .before .i .given .1) (c .before .before .before .before .before .before .before .before .find .ensures .below), c .before .before .before .load .ensures, s .pre .2), room-as (a .reports .now) (a .at) (sym (ap (λ (x : Effect). x .reports) (turn-found (a .m) (a .id) l (a .stamp) (c .before .before .before .load .result) (c .before .before .move-in-pass .result) e (c .before .before .move-in-pass .ensures)))) (s .pre .3))
+
+same-length-2 : tie.Need-same-length-2
+same-length-2 c = search needs
+
+same-length-3 : tie.Need-same-length-3
+same-length-3 c = search needs
+
+returns-2 : tie.Need-returns-2
+returns-2 c =
+    let s = c .before .before .before .before .before .before .before .before .before .before .before .before .before .before .before .before .before in
+    let a = s .args in
+    let l = resting (a .w .now) in
+    let e : find (a .id) l ≡ some (c .before .before .before .before .before .before .before .before .load .result) = sym (c .before .before .before .before .before .before .before .before .before .before .before .before .before .find .ensures .is) ∙ ap (orderIn l) (c .before .before .before .before .before .before .before .before .before .before .before .i .given .1) ∙ ap some (sym (c .before .before .before .before .before .before .before .before .load .ensures)) in
+    effect-as (turn-found (a .m) (a .id) l (a .stamp) (c .before .before .before .before .before .before .before .before .load .result) (c .before .before .before .before .before .before .before .move-in-pass .result) e (c .before .before .before .before .before .before .before .move-in-pass .ensures)) (c .before .before .before .before .make-move .ensures)
+
+pub turn-spec : {M : Type 1} → statement M
+turn-spec = tie.close (tie.spec find-requires enum-known-i enum-told same-length returns load-requires move-in-pass-requires make-move-requires same-length-2 same-length-3 returns-2)
