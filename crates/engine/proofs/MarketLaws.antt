@@ -3,9 +3,9 @@ use Prim.Native.Nat.{ℕ, _<_}
 use native.Mathlib.Omega.{arith}
 use mathlib.Core.Path.{_≡_, _∙_}
 use lib.Dec.{T, eqb, eqb→eq}
-use Rattle.numbers.specs.Answers.{Outcome, gives, refuses}
+use Rattle.numbers.specs.Answers.{gives, refuses}
 use Rattle.numbers.proofs.TestLaws.{pick-yes, and-T, T-and, eq→T}
-use Rattle.prices.specs.Prices.{isBid, permitted, permittedOf}
+use Rattle.prices.specs.Prices.{isBid, permittedOf}
 use Rattle.prices.specs.Restriction.{restrictionOn}
 use Rattle.prices.proofs.PriceLaws.{permitted-above}
 use Rattle.engine.specs.declared.Market.{Market}

@@ -19,11 +19,11 @@ use Rattle.book.proofs.RisingLaws.{rises-insert, rises-afterTrade}
 use Rattle.book.proofs.CounterpartyLaws.{Reached, counterparty-reached}
 use Rattle.book.proofs.MatchingLaws.{afterTrade-all, afterTrade-length, afterTrade-shorter, matching-none, matching-some}
 use Rattle.engine.specs.declared.Remainder.{Remainder}
-use Rattle.engine.specs.Reports.{Report, executed}
+use Rattle.engine.specs.Reports.{executed}
 use Rattle.engine.specs.Records.{reportBytes}
 use Rattle.engine.specs.Working.{Worked, remainder, afterRemainder, work}
 use Rattle.engine.specs.Memory.{Ordered, Room, Does}
-use Rattle.engine.specs.Steps.{MayEnter, Meets, executionReports, Matches, settled}
+use Rattle.engine.specs.Steps.{MayEnter, Meets, executionReports, Matches, restedOrCancelled}
 use Rattle.engine.proofs.StepLaws.{put-as, put-one, room-as, room-first, room-one, room-then, ordered-rises, ordered-distinct, holds-ordered, holds-header, does-holds, does-as, does-then, at-member, Underway, underway-start, underway-as, underway-room, underway-then, underway-end}
 
 -- an execution, by the side of the working order
@@ -149,12 +149,12 @@ module _ {w₀ w b₀ b : List ℕ} {at n : ℕ} {o₀ o : Order} (x : Order) (f
         omega (arith, meeting-less o x (resting w) reached (ordered-distinct (f .enters .ordered)), ap length (m .does .orders), ap (λ (a : Order). a .shares) (m .rests))
 
 -- what becomes of the remainder, by what it is
-pub settles : {w w′ b b′ : List ℕ} {at e : ℕ} (o : Order) (v : Remainder) → v ≡ remainder o → Does w w′ b b′ at (afterRemainder v o (resting w) .orders) (afterRemainder v o (resting w) .reports) e → Does w w′ b b′ at (settled o (resting w) .orders) (settled o (resting w) .reports) e
-settles {w} {w′} {b} {b′} {at} {e} o v q d =
+pub rests-or-cancels : {w w′ b b′ : List ℕ} {at e : ℕ} (o : Order) (v : Remainder) → v ≡ remainder o → Does w w′ b b′ at (afterRemainder v o (resting w) .orders) (afterRemainder v o (resting w) .reports) e → Does w w′ b b′ at (restedOrCancelled o (resting w) .orders) (restedOrCancelled o (resting w) .reports) e
+rests-or-cancels {w} {w′} {b} {b′} {at} {e} o v q d =
     subst (λ (z : Remainder). Does w w′ b b′ at (afterRemainder z o (resting w) .orders) (afterRemainder z o (resting w) .reports) e) q d
 
-pub settle-room : (w b : List ℕ) (at : ℕ) (o : Order) (v : Remainder) → v ≡ remainder o → Room b at (settled o (resting w) .reports) → Room b at (afterRemainder v o (resting w) .reports)
-settle-room w b at o v q h = room-as b at (ap (λ (z : Remainder). afterRemainder z o (resting w) .reports) (sym q)) h
+pub remainder-room : (w b : List ℕ) (at : ℕ) (o : Order) (v : Remainder) → v ≡ remainder o → Room b at (restedOrCancelled o (resting w) .reports) → Room b at (afterRemainder v o (resting w) .reports)
+remainder-room w b at o v q h = room-as b at (ap (λ (z : Remainder). afterRemainder z o (resting w) .reports) (sym q)) h
 
 pub does-insert : {w w′ : List ℕ} (b : List ℕ) (at : ℕ) (o : Order) → MayEnter o w → Holds w w′ (insert o (resting w)) → Does w w′ b b at (insert o (resting w)) [] at
 does-insert {w} b at o k h = does-holds b at h (rises-insert 0 o (resting w) (k .positive) (k .apart) (ordered-rises (k .ordered)))
@@ -165,25 +165,25 @@ pub match-room : (w b : List ℕ) (at : ℕ) (o : Order) → Room b at (work o (
 unfolding work
 match-room w b at o h =
     let m : Matched = matching o (resting w) in
-    room-first b at (executionReports m) (settled (m .rest) (m .orders) .reports) h
+    room-first b at (executionReports m) (restedOrCancelled (m .rest) (m .orders) .reports) h
 
 module _ {w w₁ b b₁ : List ℕ} {at n : ℕ} {o rest : Order} (f : Matches w w₁ b b₁ at o rest n) (room : Room b at (work o (resting w) .reports)) where
-  settled-same : settled rest (resting w₁) ≡ settled (matching o (resting w) .rest) (matching o (resting w) .orders)
-  settled-same = ap₂ settled (f .rests) (f .does .orders)
+  remainder-same : restedOrCancelled rest (resting w₁) ≡ restedOrCancelled (matching o (resting w) .rest) (matching o (resting w) .orders)
+  remainder-same = ap₂ restedOrCancelled (f .rests) (f .does .orders)
 
-  work-reports : work o (resting w) .reports ≡ executionReports (matching o (resting w)) ++ settled rest (resting w₁) .reports
+  work-reports : work o (resting w) .reports ≡ executionReports (matching o (resting w)) ++ restedOrCancelled rest (resting w₁) .reports
   unfolding work
-  work-reports = ap (λ (z : Worked). executionReports (matching o (resting w)) ++ z .reports) (sym settled-same)
+  work-reports = ap (λ (z : Worked). executionReports (matching o (resting w)) ++ z .reports) (sym remainder-same)
 
-  work-orders : work o (resting w) .orders ≡ settled rest (resting w₁) .orders
+  work-orders : work o (resting w) .orders ≡ restedOrCancelled rest (resting w₁) .orders
   unfolding work
-  work-orders = ap (λ (z : Worked). z .orders) (sym settled-same)
+  work-orders = ap (λ (z : Worked). z .orders) (sym remainder-same)
 
-  all-room : Room b at (executionReports (matching o (resting w)) ++ settled rest (resting w₁) .reports)
+  all-room : Room b at (executionReports (matching o (resting w)) ++ restedOrCancelled rest (resting w₁) .reports)
   all-room = room-as b at work-reports room
 
-  pub rest-room : Room b₁ n (settled rest (resting w₁) .reports)
-  rest-room = room-then (executionReports (matching o (resting w))) (settled rest (resting w₁) .reports) all-room (f .does .wrote)
+  pub rest-room : Room b₁ n (restedOrCancelled rest (resting w₁) .reports)
+  rest-room = room-then (executionReports (matching o (resting w))) (restedOrCancelled rest (resting w₁) .reports) all-room (f .does .wrote)
 
-  pub works : {w₂ b₂ : List ℕ} {e : ℕ} → Does w₁ w₂ b₁ b₂ n (settled rest (resting w₁) .orders) (settled rest (resting w₁) .reports) e → Does w w₂ b b₂ at (work o (resting w) .orders) (work o (resting w) .reports) e
+  pub works : {w₂ b₂ : List ℕ} {e : ℕ} → Does w₁ w₂ b₁ b₂ n (restedOrCancelled rest (resting w₁) .orders) (restedOrCancelled rest (resting w₁) .reports) e → Does w w₂ b b₂ at (work o (resting w) .orders) (work o (resting w) .reports) e
   works d = does-as (sym work-orders) (sym work-reports) (does-then all-room (f .does) d)

@@ -14,7 +14,7 @@ use Rattle.engine.specs.declared.Move.the-variants.{Stay}
 use Rattle.engine.specs.Market.{restricted}
 use Rattle.engine.specs.Reports.{Report, executed, repriced}
 use Rattle.engine.specs.Working.{Worked, remainder, afterRemainder, work}
-use Rattle.engine.specs.Pass.{Effect, moveOf, passOne, passOver}
+use Rattle.engine.specs.Pass.{Effect, moveOf, passOne}
 use Rattle.engine.specs.Memory.{Ordered, Does}
 
 -- the order o may enter the book of the words w: no order rests under its id, which is above 0, and fewer than 256 rest
@@ -40,8 +40,8 @@ pub record Matches (w w′ b b′ : List ℕ) (at : ℕ) (o rest : Order) (end :
   pub enters : MayEnter rest w′
 
 -- what becomes of the remainder o
-abbrev pub settled : Order → List Order → Worked
-settled o os = afterRemainder (remainder o) o os
+abbrev pub restedOrCancelled : Order → List Order → Worked
+restedOrCancelled o os = afterRemainder (remainder o) o os
 
 -- what the pass does with an order of any mark
 abbrev pub moveInPass : Market → Order → Move

@@ -10,7 +10,7 @@ use book::place;
 use book::search;
 use book::words;
 ghost use mathlib.Core.Path.{_≡_};
-ghost use Prim.Native.Nat.{_+_, _<_, _≤_};
+ghost use Prim.Native.Nat.{_+_, _<_};
 ghost use mathlib.Core.Bool.{_&&_, not};
 ghost use lib.Dec.{T, leb};
 ghost use lib.ListN.{length, getD};
@@ -56,7 +56,7 @@ fn slide_once(m: Market, o: Order) -> Move
     Move::Stay
 }
 
-// Where an adjusted order goes that may keep its price.
+// Where an adjusted order goes that need not move.
 fn slide_down(m: Market, o: Order) -> Move
     requires { ⌜ T (isBid (m .bid)) ⌝ }
     ensures { λ r. ⌜ r ≡ slideDown m o ⌝ }
@@ -74,8 +74,8 @@ fn slide_down(m: Market, o: Order) -> Move
     Move::Stay
 }
 
-// Whether a restricted order may not keep its price: it is at or below the bid, and not displayed or not clear.
-fn price_barred(m: Market, o: Order) -> bool
+// Whether a restricted order must move: its price is at or below the bid, and it is not displayed or not clear.
+fn must_move(m: Market, o: Order) -> bool
     ensures { λ r. ⌜ r ≡ (leb (o .price) (m .bid) && not (displayedClear o)) ⌝ }
 {
     if o.price <= m.bid {
@@ -89,7 +89,7 @@ fn move_of(m: Market, o: Order) -> Move
     requires { ⌜ T (isBid (m .bid)) ⌝ }
     ensures { λ r. ⌜ r ≡ moveOf m o ⌝ }
 {
-    if price_barred(m, o) {
+    if must_move(m, o) {
         if o.slide == 3 {
             return Move::Cancel;
         }

@@ -26,9 +26,10 @@ ghost use Rattle.book.specs.Positions.{Found};
 ghost use Rattle.engine.specs.Market.{permittedNow};
 ghost use Rattle.engine.specs.Reports.{executed};
 ghost use Rattle.engine.specs.Records.{reportBytes};
+ghost use Rattle.engine.specs.Working;
 ghost use Rattle.engine.specs.Working.{workingPrice, orderOf, remainder};
 ghost use Rattle.engine.specs.Memory.{Ordered, Room, Does};
-ghost use Rattle.engine.specs.Steps.{MayEnter, Meets, executionReports, Matches, settled};
+ghost use Rattle.engine.specs.Steps.{MayEnter, Meets, executionReports, Matches, restedOrCancelled};
 
 const IMMEDIATE_OR_CANCEL: u32 = 2;
 
@@ -159,7 +160,7 @@ fn match_order(w: &mut [u32], reports: &mut [u8], at: usize, o: Order) -> Workin
 }
 
 // What becomes of a remainder.
-pub(crate) fn remainder_of(o: Order) -> Remainder
+fn remainder_of(o: Order) -> Remainder
     ensures { λ r. ⌜ r ≡ remainder o ⌝ }
 {
     if o.shares == 0 {
@@ -178,9 +179,9 @@ pub(crate) fn remainder_of(o: Order) -> Remainder
 }
 
 // Cancels a remainder, or lets it rest.
-fn settle(w: &mut [u32], reports: &mut [u8], at: usize, o: Order) -> usize
-    requires { ⌜ MayEnter o (now w) × Room (now reports) at (settled o (resting (now w)) .reports) ⌝ }
-    ensures { λ r. ⌜ Does (now (w .entry)) (now (w .exit)) (now (reports .entry)) (now (reports .exit)) at (settled o (resting (now (w .entry))) .orders) (settled o (resting (now (w .entry))) .reports) r ⌝ }
+fn rest_or_cancel(w: &mut [u32], reports: &mut [u8], at: usize, o: Order) -> usize
+    requires { ⌜ MayEnter o (now w) × Room (now reports) at (restedOrCancelled o (resting (now w)) .reports) ⌝ }
+    ensures { λ r. ⌜ Does (now (w .entry)) (now (w .exit)) (now (reports .entry)) (now (reports .exit)) at (restedOrCancelled o (resting (now (w .entry))) .orders) (restedOrCancelled o (resting (now (w .entry))) .reports) r ⌝ }
 {
     match remainder_of(o) {
         Remainder::Filled => at,
@@ -194,11 +195,11 @@ fn settle(w: &mut [u32], reports: &mut [u8], at: usize, o: Order) -> usize
 
 // The order o works: it matches, and its remainder is cancelled or rests.
 pub(crate) fn work(w: &mut [u32], reports: &mut [u8], at: usize, o: Order) -> usize
-    requires { ⌜ MayEnter o (now w) × Room (now reports) at (Rattle.engine.specs.Working.work o (resting (now w)) .reports) ⌝ }
-    ensures { λ r. ⌜ Does (now (w .entry)) (now (w .exit)) (now (reports .entry)) (now (reports .exit)) at (Rattle.engine.specs.Working.work o (resting (now (w .entry))) .orders) (Rattle.engine.specs.Working.work o (resting (now (w .entry))) .reports) r ⌝ }
+    requires { ⌜ MayEnter o (now w) × Room (now reports) at (Working.work o (resting (now w)) .reports) ⌝ }
+    ensures { λ r. ⌜ Does (now (w .entry)) (now (w .exit)) (now (reports .entry)) (now (reports .exit)) at (Working.work o (resting (now (w .entry))) .orders) (Working.work o (resting (now (w .entry))) .reports) r ⌝ }
 {
     let matched = match_order(w, reports, at, o);
     let rest = matched.rest;
     let end = matched.end;
-    settle(w, reports, end, rest)
+    rest_or_cancel(w, reports, end, rest)
 }

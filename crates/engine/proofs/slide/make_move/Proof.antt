@@ -1,5 +1,5 @@
 -- By the move. Assumes nothing.
-use mathlib.Core.Path.{_≡_, refl, sym, ap, _∙_}
+use mathlib.Core.Path.{refl, sym, ap, _∙_}
 use Rattle.book.specs.declared.Order.{Order}
 use Rattle.book.specs.Orders.{without}
 use Rattle.book.specs.Words.{resting}

@@ -18,6 +18,16 @@ Inv-loop w₀ reports₀ at m stamp count ids end₀ last₀ i₀ w reports end 
 abbrev μ-loop : tie.MeasureT-loop
 μ-loop w₀ reports₀ at m stamp count ids end₀ last₀ i₀ w reports end last i = count - i
 
+-- the ids still to come start with the one of this turn
+below : (c : tie.After-turn-arg2 Inv-loop μ-loop) → c .before .before .before .loop .i < length (resting (c .before .before .before .before .before .before .before .before .before .before .args .w .now))
+below c = omega (arith, c .before .before .before .before .before .before .count .ensures, c .before .before .loop-test .taken)
+
+ids : (c : tie.After-turn-arg2 Inv-loop μ-loop) → let l = resting (c .before .before .before .before .before .before .before .before .before .before .args .w .now) in drop (c .before .before .before .loop .i) (idsOf l) ≡ getD (c .before .before .before .before .resting-ids .result) (c .before .before .before .loop .i) 0 ∷ drop (c .before .before .before .loop .i + 1) (idsOf l)
+ids c =
+    let l = resting (c .before .before .before .before .before .before .before .before .before .before .args .w .now) in
+    let i = c .before .before .before .loop .i in
+    ids-at l i (below c) ∙ ap (λ (k : ℕ). k ∷ drop (i + 1) (idsOf l)) (sym (c .before .before .before .before .resting-ids .ensures .there i (below c)))
+
 count-requires : tie.Need-count-requires Inv-loop μ-loop
 count-requires c κs = c .before .before .before .pre .0 .book
 
@@ -34,14 +44,7 @@ array-read-turn : tie.Need-array-read-turn Inv-loop μ-loop
 array-read-turn c = omega (arith, c .before .before .before .before .before .before .count .ensures, c .before .before .before .before .before .before .before .before .before .before .pre .0 .book .few)
 
 turn-requires : tie.Need-turn-requires Inv-loop μ-loop
-turn-requires c κs =
-    let s = c .before .before .before .before .before .before .before .before .before .before in
-    let l = resting (s .args .w .now) in
-    let f = c .before .before .before .loop in
-    let h : f .i < length l = omega (arith, c .before .before .before .before .before .before .count .ensures, c .before .before .loop-test .taken) in
-    let k = getD (c .before .before .before .before .resting-ids .result) (f .i) 0 in
-    let e : drop (f .i) (idsOf l) ≡ k ∷ drop (f .i + 1) (idsOf l) = ids-at l (f .i) h ∙ ap (λ (j : ℕ). j ∷ drop (f .i + 1) (idsOf l)) (sym (c .before .before .before .before .resting-ids .ensures .there (f .i) h)) in
-    (f .inv .0 .way .does .ordered, s .pre .1, omega (arith, f .inv .2, s .pre .2, s .pre .0 .book .few), passing-room k (drop (f .i + 1) (idsOf l)) e (s .pre .3) (f .inv .0))
+turn-requires c κs = let s = c .before .before .before .before .before .before .before .before .before .before in let f = c .before .before .before .loop .inv in (f .0 .way .does .ordered, s .pre .1, omega (arith, f .2, s .pre .2, s .pre .0 .book .few, below c), passing-room _ _ (ids c) (s .pre .3) (f .0))
 
 add-i : tie.Need-add-i Inv-loop μ-loop
 add-i c = search needs
@@ -52,12 +55,8 @@ loop-less c = search needs
 loop-again : tie.Need-loop-again Inv-loop μ-loop
 loop-again c =
     let s = c .before .before .before .before .before .before .before .before .before .before .before .before .before .before .before in
-    let l = resting (s .args .w .now) in
     let f = c .before .before .before .before .before .before .before .before .loop in
-    let h : f .i < length l = omega (arith, c .before .before .before .before .before .before .before .before .before .before .before .count .ensures, c .before .before .before .before .before .before .before .loop-test .taken) in
-    let k = getD (c .before .before .before .before .before .before .before .before .before .resting-ids .result) (f .i) 0 in
-    let e : drop (f .i) (idsOf l) ≡ k ∷ drop (f .i + 1) (idsOf l) = ids-at l (f .i) h ∙ ap (λ (j : ℕ). j ∷ drop (f .i + 1) (idsOf l)) (sym (c .before .before .before .before .before .before .before .before .before .resting-ids .ensures .there (f .i) h)) in
-    (passing-then k (drop (f .i + 1) (idsOf l)) e (s .pre .3) (f .inv .0) (c .before .before .before .before .turn .ensures), search needs, omega (arith, f .inv .2, c .before .before .before .before .turn .ensures .stamped, turn-stamp (s .args .m) k (resting (f .w)) (f .last)))
+    (passing-then _ _ (ids (c .before .before .before .before .before)) (s .pre .3) (f .inv .0) (c .before .before .before .before .turn .ensures), search needs, omega (arith, f .inv .2, c .before .before .before .before .turn .ensures .stamped, turn-stamp (s .args .m) (getD (c .before .before .before .before .before .before .before .before .before .resting-ids .result) (f .i) 0) (resting (f .w)) (f .last)))
 
 same-length : tie.Need-same-length Inv-loop μ-loop
 same-length c = c .before .loop .inv .0 .way .does .same .size

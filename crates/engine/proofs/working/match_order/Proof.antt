@@ -1,5 +1,5 @@
 -- Meeting after meeting, until nobody is reached or no shares remain. Assumes nothing.
-use Prim.Native.Nat.{ℕ, _+_}
+use Prim.Native.Nat.{_+_, _<_}
 use mathlib.Core.Path.{_≡_, sym, ap, _∙_, subst}
 use mathlib.Core.Option.{some}
 use lib.ListN.{length, getD}
@@ -18,6 +18,13 @@ Inv-loop w₀ reports₀ at rest₀ end₀ w reports rest end = Matching w₀ w 
 abbrev μ-loop : tie.MeasureT-loop
 μ-loop w₀ reports₀ at rest₀ end₀ w reports rest end = length (resting w) + rest .shares
 
+-- the order that is met stands at the position found
+found : (c : tie.After-known-told Inv-loop μ-loop) → let l = resting (c .before .before .before .before .before .loop .w) in counterparty (c .before .before .before .before .before .loop .rest) l ≡ some (getD l (c .before .i .given .0 .0) emptyOrder)
+found c = sym (c .before .before .before .counterparty .ensures .is) ∙ ap (orderIn (resting (c .before .before .before .before .before .loop .w))) (c .before .i .given .1)
+
+within : (c : tie.After-known-told Inv-loop μ-loop) → c .before .i .given .0 .0 < length (resting (c .before .before .before .before .before .loop .w))
+within c = subst (λ (p : Position). Below p (length (resting (c .before .before .before .before .before .loop .w)))) (c .before .i .given .1) (c .before .before .before .counterparty .ensures .below)
+
 loop-holds : tie.Need-loop-holds Inv-loop μ-loop
 loop-holds c = let s = c .before .before in matching-start (s .args .w .now) (s .args .reports .now) (s .args .at) (s .args .o) (s .pre .0)
 
@@ -28,25 +35,13 @@ enum-known-i : tie.Need-enum-known-i Inv-loop μ-loop
 enum-known-i c = search needs
 
 meet-requires : tie.Need-meet-requires Inv-loop μ-loop
-meet-requires c κs =
-    let f = c .before .before .before .before .before .before .before .loop in
-    let l = resting (f .w) in
-    let found : counterparty (f .rest) l ≡ some (getD l (c .before .before .before .i .given .0 .0) emptyOrder) = sym (c .before .before .before .before .before .counterparty .ensures .is) ∙ ap (orderIn l) (c .before .before .before .i .given .1) in
-    ((f .inv .enters .ordered, subst (λ (p : Position). Below p (length l)) (c .before .before .before .i .given .1) (c .before .before .before .before .before .counterparty .ensures .below)), matching-room _ (f .inv) found (c .before .before .before .before .before .before .before .before .before .before .pre .1))
+meet-requires c κs = let k = c .before .before in let f = c .before .before .before .before .before .before .before .loop .inv in ((f .enters .ordered, within k), matching-room _ f (found k) (c .before .before .before .before .before .before .before .before .before .before .pre .1))
 
 loop-less : tie.Need-loop-less Inv-loop μ-loop
-loop-less c =
-    let f = c .before .before .before .before .before .before .before .before .before .before .before .before .before .loop in
-    let l = resting (f .w) in
-    let found : counterparty (f .rest) l ≡ some (getD l (c .before .before .before .before .before .before .before .before .before .i .given .0 .0) emptyOrder) = sym (c .before .before .before .before .before .before .before .before .before .before .before .counterparty .ensures .is) ∙ ap (orderIn l) (c .before .before .before .before .before .before .before .before .before .i .given .1) in
-    matching-less _ (f .inv) found (c .before .before .before .before .before .meet .ensures)
+loop-less c = matching-less _ (c .before .before .before .before .before .before .before .before .before .before .before .before .before .loop .inv) (found (c .before .before .before .before .before .before .before .before)) (c .before .before .before .before .before .meet .ensures)
 
 loop-again : tie.Need-loop-again Inv-loop μ-loop
-loop-again c =
-    let f = c .before .before .before .before .before .before .before .before .before .before .before .before .before .loop in
-    let l = resting (f .w) in
-    let found : counterparty (f .rest) l ≡ some (getD l (c .before .before .before .before .before .before .before .before .before .i .given .0 .0) emptyOrder) = sym (c .before .before .before .before .before .before .before .before .before .before .before .counterparty .ensures .is) ∙ ap (orderIn l) (c .before .before .before .before .before .before .before .before .before .i .given .1) in
-    matching-then _ (f .inv) found (c .before .before .before .before .before .meet .ensures) (c .before .before .before .before .before .before .before .before .before .before .before .before .before .before .before .before .pre .1)
+loop-again c = matching-then _ (c .before .before .before .before .before .before .before .before .before .before .before .before .before .loop .inv) (found (c .before .before .before .before .before .before .before .before)) (c .before .before .before .before .before .meet .ensures) (c .before .before .before .before .before .before .before .before .before .before .before .before .before .before .before .before .pre .1)
 
 enum-told : tie.Need-enum-told Inv-loop μ-loop
 enum-told c = search needs

@@ -1,13 +1,13 @@
 -- By what becomes of the remainder. Assumes nothing.
-use mathlib.Core.Path.{_≡_, sym, _∙_}
+use mathlib.Core.Path.{sym, _∙_}
 use Rattle.engine.specs.declared.Remainder.the-variants.{Filled, Cancelled, Rests}
 use Rattle.engine.specs.Reports.{cancelled}
-use Rattle.engine.specs.Working.{remainder, afterRemainder}
+use Rattle.engine.specs.Working.{afterRemainder}
 use Rattle.engine.proofs.StepLaws.{room-one, does-none, does-report}
-use Rattle.engine.proofs.WorkingSteps.{settles, settle-room, does-insert}
+use Rattle.engine.proofs.WorkingSteps.{rests-or-cancels, remainder-room, does-insert}
 use borrow.Author.Needs.{needs}
-use Rattle.engine.proofs.working.settle.Statement.{statement}
-use Rattle.engine.proofs.working.settle.Tie as tie
+use Rattle.engine.proofs.working.rest_or_cancel.Statement.{statement}
+use Rattle.engine.proofs.working.rest_or_cancel.Tie as tie
 
 remainder-of-requires : tie.Need-remainder-of-requires
 remainder-of-requires c κs = search needs
@@ -26,7 +26,7 @@ write-cancelled-requires c κs =
     let w = a .w .now in
     let b = a .reports .now in
     let k = c .before .before .cause .given .0 .0 in
-    room-one b (a .at) (cancelled (a .o .id) (a .o .shares) k) (settle-room w b (a .at) (a .o) (Cancelled k) (sym (c .before .before .cause .given .1) ∙ c .before .before .before .before .remainder-of .ensures) (s .pre .1))
+    room-one b (a .at) (cancelled (a .o .id) (a .o .shares) k) (remainder-room w b (a .at) (a .o) (Cancelled k) (sym (c .before .before .cause .given .1) ∙ c .before .before .before .before .remainder-of .ensures) (s .pre .1))
 
 enum-told-2 : tie.Need-enum-told-2
 enum-told-2 c = search needs
@@ -41,7 +41,7 @@ returns c =
     let a = s .args in
     let w = a .w .now in
     let b = a .reports .now in
-    settles (a .o) Filled (sym (c .enum-told .given .1) ∙ c .before .before .remainder-of .ensures) (does-none w b (a .at) (s .pre .0 .ordered))
+    rests-or-cancels (a .o) Filled (sym (c .enum-told .given .1) ∙ c .before .before .remainder-of .ensures) (does-none w b (a .at) (s .pre .0 .ordered))
 
 same-length : tie.Need-same-length
 same-length c = search needs
@@ -54,7 +54,7 @@ returns-2 c =
     let w = a .w .now in
     let b = a .reports .now in
     let k = c .before .before .before .before .before .cause .given .0 .0 in
-    settles (a .o) (Cancelled k) (sym (c .before .before .before .before .before .cause .given .1) ∙ c .before .before .before .before .before .before .before .remainder-of .ensures) (does-report (cancelled (a .o .id) (a .o .shares) k) (s .pre .0 .ordered) (c .before .before .write-cancelled .ensures))
+    rests-or-cancels (a .o) (Cancelled k) (sym (c .before .before .before .before .before .cause .given .1) ∙ c .before .before .before .before .before .before .before .remainder-of .ensures) (does-report (cancelled (a .o .id) (a .o .shares) k) (s .pre .0 .ordered) (c .before .before .write-cancelled .ensures))
 
 same-length-2 : tie.Need-same-length-2
 same-length-2 c = search needs
@@ -66,7 +66,7 @@ returns-3 c =
     let a = s .args in
     let w = a .w .now in
     let b = a .reports .now in
-    settles (a .o) Rests (sym (c .before .before .before .before .enum-told2 .given .1) ∙ c .before .before .before .before .before .before .remainder-of .ensures) (does-insert b (a .at) (a .o) (s .pre .0) (c .before .before .insert .ensures))
+    rests-or-cancels (a .o) Rests (sym (c .before .before .before .before .enum-told2 .given .1) ∙ c .before .before .before .before .before .before .remainder-of .ensures) (does-insert b (a .at) (a .o) (s .pre .0) (c .before .before .insert .ensures))
 
-pub settle-spec : {M : Type 1} → statement M
-settle-spec = tie.close (tie.spec remainder-of-requires enum-told enum-known-cause write-cancelled-requires enum-told-2 insert-requires returns same-length returns-2 same-length-2 returns-3)
+pub rest-or-cancel-spec : {M : Type 1} → statement M
+rest-or-cancel-spec = tie.close (tie.spec remainder-of-requires enum-told enum-known-cause write-cancelled-requires enum-told-2 insert-requires returns same-length returns-2 same-length-2 returns-3)
