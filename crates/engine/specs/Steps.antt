@@ -55,9 +55,10 @@ repricedReports x os = repriced (x .id) (x .price) (x .stamp) ∷ work x os .rep
 abbrev pub turnOf : Market → ℕ → List Order → ℕ → Effect
 turnOf m i os s = passOne m (find i os) os s
 
--- the ids of the orders, at the front of a run of words
+-- the ids of the orders
 abbrev pub idsOf : List Order → List ℕ
 idsOf os = map (λ (o : Order). o .id) os
 
+-- a run of words starts with them
 pub record StartsWithIds (ids : List ℕ) (os : List Order) : Type 0 where
   pub there : (k : ℕ) → k < length os → getD ids k 0 ≡ (getD os k emptyOrder) .id

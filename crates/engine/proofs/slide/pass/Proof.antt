@@ -18,7 +18,7 @@ Inv-loop w₀ reports₀ at m stamp count ids end₀ last₀ i₀ w reports end 
 abbrev μ-loop : tie.MeasureT-loop
 μ-loop w₀ reports₀ at m stamp count ids end₀ last₀ i₀ w reports end last i = count - i
 
--- the ids still to come start with the one of this turn
+-- the ids still to come start with the one of this turn, which was copied at the start
 below : (c : tie.After-turn-arg2 Inv-loop μ-loop) → c .before .before .before .loop .i < length (resting (c .before .before .before .before .before .before .before .before .before .before .args .w .now))
 below c = omega (arith, c .before .before .before .before .before .before .count .ensures, c .before .before .loop-test .taken)
 
