@@ -31,7 +31,7 @@ fn codes_sound(mark: u32, show: u32, life: u32, slide: u32) -> bool
     false
 }
 
-fn slide_allowed(mark: u32, slide: u32) -> bool
+pub fn slide_allowed(mark: u32, slide: u32) -> bool
     ensures { λ r. ⌜ r ≡ slideAllowed mark slide ⌝ }
 {
     if slide > 3 {

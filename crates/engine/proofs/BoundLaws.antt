@@ -28,10 +28,10 @@ use Rattle.engine.specs.declared.Remainder.the-variants.{Filled, Cancell
 use Rattle.engine.specs.declared.Move.{Move}
 use Rattle.engine.specs.declared.Move.the-variants.{Stay, Cancel, Reprice}
 use Rattle.engine.specs.Market.{marketAfter}
-use Rattle.engine.specs.Reports.{Report, accepted, executed, cancelled, repriced, restrictionStarts, dayEnded, endOfDay}
+use Rattle.engine.specs.Reports.{Report, accepted, executed, cancelled, repriced, restrictionStarts, dayEnded}
 use Rattle.engine.specs.Working.{orderOf, remainder, afterRemainder, work}
 use Rattle.engine.specs.Pass.{Effect, atNewPrice, afterMove, passOne, passOver}
-use Rattle.engine.specs.Venue.{Venue, effectOfEntry, effectOfCancel, thePass, restrictionReport, effectOfDayEnd, effectOf, lastIdAfter}
+use Rattle.engine.specs.Venue.{Venue, effectOfEntry, effectOfCancel, thePass, restrictionReport, cancelledAtEnd, effectOfDayEnd, effectOf, lastIdAfter}
 use Rattle.engine.specs.Sound.{mostOrders}
 use Rattle.engine.specs.Refusals.{leastBuffer, refusal}
 use Rattle.engine.specs.Run.{stepUnless, step}
@@ -153,9 +153,6 @@ module _ (m : Market) (t : T (isBid (m .bid))) (n : ℕ) where
       omega (arith, passOne-most k (find k os) os s (find-found k os) b, passOver-most is (x .orders) (x .stamp) (g .0), most-append (x .reports) (passOver m is (x .orders) (x .stamp) .reports))
 
 -- events
-
-abbrev cancelledAtEnd : Order → Report
-cancelledAtEnd o = cancelled (o .id) (o .shares) endOfDay
 
 allCancelled-most : (os : List Order) → mostOf (map cancelledAtEnd os) ≡ 16 * length os
 allCancelled-most [] = refl

@@ -21,3 +21,6 @@ pub mod CallLaws
 pub mod StepLaws
 pub mod WorkingSteps
 pub mod SlideSteps
+pub mod MemoryLaws
+pub mod RefuseLaws
+pub mod LeaveLaws

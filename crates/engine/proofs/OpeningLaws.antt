@@ -2,24 +2,26 @@
 use Prim.Native.Nat.{ℕ}
 use native.Mathlib.Omega.{arith}
 use mathlib.Core.Path.{_≡_, refl, ap, _∙_}
-use mathlib.Core.Bool.{not}
+use mathlib.Core.Bool.{true, false, not}
 use mathlib.Core.List.{List, [], _∷_}
 use lib.Dec.{T}
 use lib.ListN.{replicate, length-replicate}
 use Rattle.numbers.specs.Answers.{Outcome, gives, refuses}
-use Rattle.numbers.specs.Tests.{every}
+use Rattle.numbers.specs.Tests.{pick, every}
 use Rattle.numbers.proofs.TestLaws.{by-test, pick-yes, pick-no}
 use Rattle.prices.specs.Prices.{legal}
 use Rattle.book.specs.Sound.{idsRise, stampsDiffer}
-use Rattle.book.specs.Words.{isBook}
+use Rattle.book.specs.Words.{venueWords, isBook}
 use Rattle.book.proofs.WordLaws.{resting-tabulate, laidOut-isBook}
 use Rattle.engine.specs.declared.Event.{Event}
+use Rattle.engine.specs.declared.Refusal.the-variants.{PriceNotLegal}
+use Rattle.engine.specs.declared.OpenAnswer.the-variants.{Fresh, NotOpened}
 use Rattle.engine.specs.Venue.{Venue, opened, opening}
 use Rattle.engine.specs.Sound.{sound}
 use Rattle.engine.specs.Refusals.{refuseUnless, refusal}
 use Rattle.engine.specs.Run.{stepUnless, step}
 use Rattle.engine.specs.Memory.{venueOf}
-use Rattle.engine.specs.Calls.{openedWords, stepIn}
+use Rattle.engine.specs.Calls.{openedWords, Opens, stepIn}
 
 pub record Opened (close : ℕ) (v : Venue) : Type 0 where
   pub legal : T (legal close)
@@ -77,3 +79,13 @@ broken e n = refl
 -- the words that open leaves where it makes no venue are refused with 16
 pub not-opened : (close : ℕ) → T (not (legal close)) → (e : Event) (n : ℕ) → stepIn (openedWords close) e n .answer ≡ refuses 16
 not-opened close t e n = rw (opened-no close t, step-in (freshWords 0) e n (fresh-book 0), fresh-venue 0) (broken e n)
+
+-- what open answers and leaves
+
+pub opens-yes : (close : ℕ) → legal close ≡ true → Opens close Fresh (freshWords close)
+unfolding opening openedWords pick
+opens-yes close e = record { answers = rw e (ap gives (fresh-venue close)); is = rw e }
+
+pub opens-no : (close : ℕ) → legal close ≡ false → Opens close (NotOpened PriceNotLegal) (replicate venueWords 0)
+unfolding opening openedWords pick
+opens-no close e = record { answers = rw e; is = rw e }

@@ -27,7 +27,7 @@ use Rattle.engine.specs.Market.{marketAfter}
 use Rattle.engine.specs.Reports.{Report, executed, cancelled, optOut, endOfDay}
 use Rattle.engine.specs.Working.{remainder, afterRemainder, work}
 use Rattle.engine.specs.Pass.{Effect, afterMove, passOne, passOver}
-use Rattle.engine.specs.Venue.{Venue, effectOfEntry, effectOfCancel, thePass, restrictionReport, effectOfDayEnd, effectOf, lastIdAfter}
+use Rattle.engine.specs.Venue.{Venue, effectOfEntry, effectOfCancel, thePass, restrictionReport, cancelledAtEnd, effectOfDayEnd, effectOf, lastIdAfter}
 use Rattle.engine.specs.Sound.{mostEvents}
 use Rattle.engine.specs.Refusals.{rests}
 use Rattle.engine.specs.RoundTrips.{Word, ReportWords}
@@ -151,9 +151,8 @@ module _ (v : Venue) (g : SoundVenue v) (l : v.acceptedEvents < mostEvents) (i :
       let r = thePass-words m (g .market .bid) in
       by-test (λ (rs : List Report). All ReportWords (rs ++ thePass m v .reports)) _ (λ t. r) (λ t. ((omega arith, tt), r))
   effectOf-words (dayEnd c) f k =
-      let cancels : Order → Report = λ o. cancelled (o .id) (o .shares) endOfDay in
       let h = all-map (λ o h. cancelled-words o endOfDay (order-words (v .lastId) (v .lastStamp) o i (h .works)) (omega arith)) (v .orders) (g .book .orders) in
-      all-append ReportWords (map cancels (v .orders)) _ (map-all ReportWords cancels (v .orders) h) ((omega arith, (omega (arith, marketAfter-sound v (dayEnd c) f (g .market) .phase), tt)), tt)
+      all-append ReportWords (map cancelledAtEnd (v .orders)) _ (map-all ReportWords cancelledAtEnd (v .orders) h) ((omega arith, (omega (arith, marketAfter-sound v (dayEnd c) f (g .market) .phase), tt)), tt)
 
 -- the last id doesn't fall
 lastId-word : (v : Venue) (e : Event) → Allowed v e → Word (lastIdAfter v e) → Word (v .lastId)

@@ -13,6 +13,8 @@ use Rattle.book.specs.Words.{venueWords, resting, isBook}
 use Rattle.engine.specs.declared.Event.{Event}
 use Rattle.engine.specs.declared.Refusal.{Refusal}
 use Rattle.engine.specs.declared.Refusal.the-variants.{BufferTooShort, EventsSpent, PriceNotLegal, SharesOutOfRange, CodeOutOfRange, IdNotNew, BookFull, NotResting, VenueBroken}
+use Rattle.engine.specs.declared.MayRefuse.{MayRefuse}
+use Rattle.engine.specs.declared.MayRefuse.the-variants.{Refuse, Allow}
 use Rattle.engine.specs.declared.Answer.{Answer}
 use Rattle.engine.specs.declared.Answer.the-variants.{Accepted, Refused}
 use Rattle.engine.specs.declared.OpenAnswer.{OpenAnswer}
@@ -38,6 +40,11 @@ refusalNumber IdNotNew = 6
 refusalNumber BookFull = 7
 refusalNumber NotResting = 8
 refusalNumber VenueBroken = 16
+
+-- the paper's terms for what the refusals say of an event
+abbrev pub refusedWith : MayRefuse → Option ℕ
+refusedWith (Refuse r) = some (refusalNumber r)
+refusedWith Allow = nothing
 
 -- the paper's terms for the answer of an event: "The result has their byte count"
 abbrev pub outcomeOfAnswer : Answer → Outcome ℕ

@@ -1,18 +1,23 @@
 -- The venue that a run of words means, and what the engine's steps leave in the words and in the report buffer. Assumes nothing.
 use Prim.Native.Nat.{ℕ, _+_, _≤_, _<_}
 use mathlib.Core.Path.{_≡_}
+use mathlib.Core.Bool.{Bool, _&&_}
 use mathlib.Core.List.{List}
-use lib.Dec.{T}
+use mathlib.Core.Option.{Option}
+use lib.Dec.{T, leb, ltb}
 use lib.ListN.{length, getD}
 use Rattle.numbers.specs.SevenBit.{Put}
 use Rattle.book.specs.declared.Order.{Order}
 use Rattle.book.specs.Sound.{idsRise}
-use Rattle.book.specs.Words.{venueWords, resting, Book}
+use Rattle.book.specs.Words.{venueWords, resting, isBook, Book}
+use Rattle.engine.specs.declared.Market.{Market}
 use Rattle.engine.specs.declared.Event.{Event}
 use Rattle.engine.specs.Market.{marketAfter}
 use Rattle.engine.specs.Reports.{Report}
 use Rattle.engine.specs.Pass.{Effect}
 use Rattle.engine.specs.Venue.{Venue, effectOf, venueAfter}
+use Rattle.engine.specs.Sound.{mostEvents, sound}
+use Rattle.engine.specs.Refusals.{refuseUnless, refusalOfKind, leastBuffer}
 use Rattle.engine.specs.Records.{reportsBytes}
 
 -- header words 1 to 6, and the orders; words 7 to 15 are spare
@@ -25,6 +30,18 @@ venueOf w =
       lastStamp = getD w 5 0;
       acceptedEvents = getD w 6 0;
     }
+
+-- words that are laid out as a venue and meet the conditions of refusal 16
+unfoldable pub soundWords : List ℕ → Bool
+soundWords w = isBook w && sound (venueOf w)
+
+-- the refusals of an event, for any words; n is the length of the lent report buffer
+unfoldable pub refusalIn : List ℕ → Event → ℕ → Option ℕ
+refusalIn w e n =
+    refuseUnless (soundWords w) 16
+    (refuseUnless (leb leastBuffer n) 1
+    (refuseUnless (ltb (venueOf w .acceptedEvents) mostEvents) 2
+    (refusalOfKind (venueOf w) e)))
 
 -- words that are a book whose ids rise: what every step of the engine needs, and leaves
 pub record Ordered (w : List ℕ) : Type 0 where
@@ -43,6 +60,12 @@ pub record SameSpare (w w′ : List ℕ) : Type 0 where
   pub spare : (j : ℕ) → 7 ≤ j → j < 16 → getD w′ j 0 ≡ getD w j 0
   pub behind : (j : ℕ) → venueWords ≤ j → getD w′ j 0 ≡ getD w j 0
 
+-- a step of the header, or of a whole event: the words w′ are then the venue v
+pub record Becomes (w w′ : List ℕ) (v : Venue) : Type 0 where
+  pub ordered : Ordered w′
+  pub venue : venueOf w′ ≡ v
+  pub same : SameSpare w w′
+
 -- there is room for the bytes of these reports from an offset on
 abbrev pub Room : List ℕ → ℕ → List Report → Type 0
 Room b at rs = at + length (reportsBytes rs) ≤ length b
@@ -60,9 +83,27 @@ pub record DoesEffect (w w′ b b′ : List ℕ) (at : ℕ) (x : Effect) (end st
   pub does : Does w w′ b b′ at (x .orders) (x .reports) end
   pub stamped : stamp ≡ x.stamp
 
+-- the venue in another market, with other orders, and at the end of an accepted event
+abbrev pub inMarket : Market → Venue → Venue
+inMarket m v = record { market = m; orders = v.orders; lastId = v.lastId; lastStamp = v.lastStamp; acceptedEvents = v.acceptedEvents }
+
+abbrev pub withOrders : List Order → Venue → Venue
+withOrders os v =
+    record { market = v.market; orders = os; lastId = v.lastId; lastStamp = v.lastStamp; acceptedEvents = v.acceptedEvents }
+
+abbrev pub finished : ℕ → ℕ → Venue → Venue
+finished id stamp v =
+    record { market = v.market; orders = v.orders; lastId = id; lastStamp = stamp; acceptedEvents = v.acceptedEvents + 1 }
+
 -- what an accepted event does to the venue of the words w
 unfoldable pub effectIn : List ℕ → Event → Effect
 effectIn w e = let v : Venue = venueOf w in effectOf (marketAfter e (v .market)) v e
+
+-- the words of a sound venue that hasn't accepted all its events
+pub record MayAccept (w : List ℕ) : Type 0 where
+  pub ordered : Ordered w
+  pub sound : T (sound (venueOf w))
+  pub events : venueOf w .acceptedEvents < mostEvents
 
 -- an accepted event, done: the words w′ are the venue after it, and b′ has its reports at the front, up to end
 pub record Accepts (w w′ b b′ : List ℕ) (e : Event) (end : ℕ) : Type 0 where

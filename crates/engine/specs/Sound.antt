@@ -17,12 +17,16 @@ mostOrders = 256
 abbrev pub mostEvents : ℕ
 mostEvents = 16_777_215
 
--- "at most 256 orders; ids rising, from 1 ..; .. the phase among them ..; stamps different ..; close legal; bid .. a bid ..; accepted
--- events at most 16,777,215; last stamp at most 256 × accepted events"
+-- ".. the phase among them ..; close legal; bid .. a bid ..; accepted events at most 16,777,215; last stamp at most 256 × accepted events"
+abbrev pub headerConditions : Venue → List Bool
+headerConditions v =
+    leb (v.market.phase) 2 ∷ legal (v.market.close) ∷ isBid (v.market.bid) ∷ leb (v .acceptedEvents) mostEvents ∷ leb (v .lastStamp) (256 * v.acceptedEvents) ∷ []
+
+-- "at most 256 orders; ids rising, from 1 ..; stamps different .."
 abbrev pub venueConditions : Venue → List Bool
 venueConditions v =
     leb (length (v .orders)) mostOrders ∷ idsRise 0 (v .orders) ∷ every (soundOrder (v .lastId) (v .lastStamp)) (v .orders) ∷ stampsDiffer (v .orders)
-    ∷ leb (v.market.phase) 2 ∷ legal (v.market.close) ∷ isBid (v.market.bid) ∷ leb (v .acceptedEvents) mostEvents ∷ leb (v .lastStamp) (256 * v.acceptedEvents) ∷ []
+    ∷ headerConditions v
 
 unfoldable pub sound : Venue → Bool
 sound v = conj (venueConditions v)

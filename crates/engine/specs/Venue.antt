@@ -59,9 +59,12 @@ effectOfTape m v =
     record { reports = restrictionReport (v .market) m ++ p.reports; orders = p.orders; stamp = p.stamp }
 
 -- "cancels every order, lowest id first (cause 4)"; "6 day ended, last: new phase"
+abbrev pub cancelledAtEnd : Order → Report
+cancelledAtEnd o = cancelled (o .id) (o .shares) endOfDay
+
 unfoldable pub effectOfDayEnd : Market → Venue → Effect
 effectOfDayEnd m v =
-    record { reports = map (λ (o : Order). cancelled (o .id) (o .shares) endOfDay) (v .orders) ++ dayEnded (m .phase) ∷ []; orders = []; stamp = v.lastStamp }
+    record { reports = map cancelledAtEnd (v .orders) ++ dayEnded (m .phase) ∷ []; orders = []; stamp = v.lastStamp }
 
 unfoldable pub effectOf : Market → Venue → Event → Effect
 effectOf m v (entry e) = effectOfEntry m v e

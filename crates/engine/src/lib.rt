@@ -1,7 +1,11 @@
 // The venue of document 01: events, reports, refusals and the law of demand 3. The fourth layer.
+pub mod header;
 pub mod host;
+pub mod leave;
+pub mod open;
 pub mod record;
 pub mod refusals;
+pub mod refuse;
 pub mod report;
 mod slide;
 mod working;
@@ -114,6 +118,12 @@ pub enum Refusal {
     NotResting,
     // the words break a condition of a venue record
     VenueBroken,
+}
+
+// Whether an event is refused, and why.
+pub enum MayRefuse {
+    Refuse(Refusal),
+    Allow,
 }
 
 // What an event answers: the byte count of its reports, or the refusal.

@@ -1,0 +1,40 @@
+-- `venue_sound`: the length, the header, then the walk over the orders. Assumes nothing.
+use mathlib.Core.Path.{sym, _∙_}
+use Rattle.book.proofs.WalkLaws.{not-yes, not-no}
+use Rattle.engine.proofs.RefuseLaws.{and-yes, and-no, header-first, short-words}
+use borrow.Author.Needs.{needs}
+use Rattle.engine.proofs.refuse.venue_sound.Statement.{statement}
+use Rattle.engine.proofs.refuse.venue_sound.Tie as tie
+
+returns : tie.Need-returns
+returns c = sym (short-words (c .before .before .args .w .now) (c .if1 .taken))
+
+header-sound-requires : tie.Need-header-sound-requires
+header-sound-requires c κs = search needs
+
+returns-2 : tie.Need-returns-2
+returns-2 c = sym (header-first (c .before .before .before .before .args .w .now) ∙ and-no _ (sym (c .before .header-sound .ensures) ∙ not-yes (c .before .header-sound .result) (c .if2 .taken)))
+
+shared-slice-read-is-sound : tie.Need-shared-slice-read-is-sound
+shared-slice-read-is-sound c = search needs
+
+shared-slice-read-is-sound-2 : tie.Need-shared-slice-read-is-sound-2
+shared-slice-read-is-sound-2 c = search needs
+
+is-sound-requires : tie.Need-is-sound-requires
+is-sound-requires c κs = search needs
+
+returns-3 : tie.Need-returns-3
+returns-3 c = c .is-sound .ensures ∙ sym (header-first (c .before .before .before .before .before .before .before .args .w .now) ∙ and-yes _ (sym (c .before .before .before .before .header-sound .ensures) ∙ not-no (c .before .before .before .before .header-sound .result) (c .before .before .before .if2 .left)))
+
+pub venue-sound-spec : {M : Type 1} → statement M
+venue-sound-spec =
+    tie.close
+    (tie.spec
+    returns
+    header-sound-requires
+    returns-2
+    shared-slice-read-is-sound
+    shared-slice-read-is-sound-2
+    is-sound-requires
+    returns-3)
