@@ -24,3 +24,4 @@ pub mod SlideSteps
 pub mod MemoryLaws
 pub mod RefuseLaws
 pub mod LeaveLaws
+pub mod ApplyLaws

@@ -50,7 +50,7 @@ unless-map : (P Q : Type 0) → (P → Q) → (r : Option ℕ) → Unless r P �
 unless-map P Q f none h = f h
 unless-map P Q f (some n) h = tt
 
-refusalOfKind-known : (v : Venue) (e : Event) → Unless (refusalOfKind v e) (Allowed v e)
+pub refusalOfKind-known : (v : Venue) (e : Event) → Unless (refusalOfKind v e) (Allowed v e)
 unfolding refusalOfKind
 refusalOfKind-known v (entry e) =
     refuseUnless-known _ _ _ _ (λ p. refuseUnless-known _ (leb 1 (e .shares)) _ _ (λ a. refuseUnless-known _ (leb (e .shares) mostShares) _ _ (λ s. refuseUnless-known _ _ _ _ (λ c. refuseUnless-known _ _ _ _ (λ i. refuseUnless-known _ _ _ none (λ r. record { price = p; least = leb→le _ _ a; most = leb→le _ _ s; codes = c; newId = leb→le _ _ i; room = leb→le _ _ r }))))))
