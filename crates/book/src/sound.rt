@@ -8,13 +8,13 @@ ghost use Rattle.book.specs.Sound.{slideAllowed, soundOrder};
 ghost use Rattle.book.specs.Words.{venueWords, orderAt, flagsAt, soundBook};
 ghost use Rattle.book.specs.RecordWalk.{fromOne, codesSound, pricesSound, idBefore, bucketOf, stampSeen, lastIn, Linked, soundAt};
 
-const VENUE: usize = 3344;
+pub const VENUE: usize = 3344;
 
-const PLACES: usize = 256;
+pub const PLACES: usize = 256;
 
 const BUCKETS: u32 = 256;
 
-const MOST_SHARES: u32 = 1_000_000;
+pub const MOST_SHARES: u32 = 1_000_000;
 
 fn codes_sound(mark: u32, show: u32, life: u32, slide: u32) -> bool
     ensures { λ r. ⌜ r ≡ codesSound mark show life slide ⌝ }

@@ -19,7 +19,7 @@ pub(crate) const LAST_STAMP: usize = 5;
 
 pub(crate) const ACCEPTED_EVENTS: usize = 6;
 
-pub fn market(w: &[u32]) -> Market
+pub(crate) fn market(w: &[u32]) -> Market
     requires { ⌜ Book (now w) ⌝ }
     ensures { λ r. ⌜ r ≡ venueOf (now (w .entry)) .market ⌝ }
 {

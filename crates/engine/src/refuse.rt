@@ -21,12 +21,6 @@ ghost use Rattle.engine.specs.Refusals.{refuseUnless, codesInRange, refu
 ghost use Rattle.engine.specs.Memory.{venueOf, soundWords, refusalIn, Ordered};
 ghost use Rattle.engine.specs.Calls.{refusedWith};
 
-const VENUE: usize = 3344;
-
-const PLACES: usize = 256;
-
-const MOST_SHARES: u32 = 1_000_000;
-
 const MOST_EVENTS: u32 = 16_777_215;
 
 const LEAST_BUFFER: usize = 16_384;
@@ -56,7 +50,7 @@ fn entry_refusal(w: &[u32], e: Entry) -> MayRefuse
     if e.shares < 1 {
         return MayRefuse::Refuse(Refusal::SharesOutOfRange);
     }
-    if e.shares > MOST_SHARES {
+    if e.shares > sound::MOST_SHARES {
         return MayRefuse::Refuse(Refusal::SharesOutOfRange);
     }
     if !codes_in_range(e) {
@@ -65,17 +59,17 @@ fn entry_refusal(w: &[u32], e: Entry) -> MayRefuse
     if e.id <= words::header_word(w, header::LAST_ID) {
         return MayRefuse::Refuse(Refusal::IdNotNew);
     }
-    if words::count(w) >= PLACES {
+    if words::count(w) >= sound::PLACES {
         return MayRefuse::Refuse(Refusal::BookFull);
     }
     MayRefuse::Allow
 }
 
-// Refused, unless a price, a close or a bid is one.
-fn price_refusal(is_one: bool) -> MayRefuse
-    ensures { λ r. ⌜ refusedWith r ≡ refuseUnless «is_one» 3 none ⌝ }
+// Refused, unless a price or a close is legal, or a bid is a bid.
+fn price_refusal(valid: bool) -> MayRefuse
+    ensures { λ r. ⌜ refusedWith r ≡ refuseUnless valid 3 none ⌝ }
 {
-    if is_one {
+    if valid {
         return MayRefuse::Allow;
     }
     MayRefuse::Refuse(Refusal::PriceNotLegal)
@@ -125,10 +119,10 @@ fn header_sound(w: &[u32]) -> bool
 }
 
 // Whether words are a venue that meets the conditions of refusal 16.
-pub fn venue_sound(w: &[u32]) -> bool
+pub(crate) fn venue_sound(w: &[u32]) -> bool
     ensures { λ r. ⌜ r ≡ soundWords (now (w .entry)) ⌝ }
 {
-    if w.len() < VENUE {
+    if w.len() < sound::VENUE {
         return false;
     }
     if !header_sound(w) {
@@ -138,7 +132,7 @@ pub fn venue_sound(w: &[u32]) -> bool
 }
 
 // The refusals of an event with a report buffer of a length, for any words.
-pub fn event_refusal(w: &[u32], e: Event, buffer: usize) -> MayRefuse
+pub(crate) fn event_refusal(w: &[u32], e: Event, buffer: usize) -> MayRefuse
     ensures { λ r. ⌜ refusedWith r ≡ refusalIn (now (w .entry)) e buffer ⌝ }
 {
     if !venue_sound(w) {
