@@ -18,6 +18,8 @@ pub mod ReadingLaws
 pub mod RecordCalls
 pub mod RecordExamples
 pub mod CallLaws
+pub mod EnterLaws
+pub mod CancelLaws
 pub mod StepLaws
 pub mod WorkingSteps
 pub mod SlideSteps

@@ -1,4 +1,6 @@
 // The venue of document 01: events, reports, refusals and the law of demand 3. The fourth layer.
+pub mod apply;
+mod enter;
 pub mod header;
 pub mod host;
 pub mod leave;

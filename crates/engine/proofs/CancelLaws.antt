@@ -1,0 +1,35 @@
+-- The order that a cancel finds. Assumes nothing.
+use Prim.Native.Nat.{ℕ, _<_}
+use native.Mathlib.Omega.{arith}
+use mathlib.Core.Path.{_≡_, sym, _∙_, subst}
+use mathlib.Core.List.{List}
+use mathlib.Core.Option.{Option, none, some}
+use lib.Dec.{T}
+use lib.ListN.{length, getD}
+use Rattle.book.specs.declared.Order.{Order}
+use Rattle.book.specs.declared.Position.{Position}
+use Rattle.book.specs.declared.Position.the-variants.{At, Absent}
+use Rattle.book.specs.Orders.{find}
+use Rattle.book.specs.Words.{emptyOrder}
+use Rattle.book.specs.Positions.{Found}
+use Rattle.book.proofs.OrderLaws.{find-found}
+use Rattle.engine.specs.declared.Event.the-variants.{Cancel as cancel}
+use Rattle.engine.specs.Refusals.{rests}
+use Rattle.engine.specs.Memory.{Accepts}
+
+-- an order found at a position is there, and has the id
+pub found-at : {l : List Order} {r : Position} {i id : ℕ} → Found l r (find id l) → r ≡ At i → (i < length l) × ((getD l i emptyOrder) .id ≡ id)
+found-at {l} {r} {i} {id} f e =
+    let g : Found l (At i) (find id l) = subst (λ (p : Position). Found l p (find id l)) e f in
+    (g .below, subst (Rattle.book.proofs.OrderLaws.Found id l) (sym (g .is)) (find-found id l) .1)
+
+-- one that rests is found
+pub not-absent : {l : List Order} {r : Position} (id : ℕ) → Found l r (find id l) → r ≡ Absent → T (rests (find id l)) → ⊥
+unfolding rests
+not-absent {l} {r} id f e t =
+    let g : Found l Absent (find id l) = subst (λ (p : Position). Found l p (find id l)) e f in
+    subst (λ (x : Option Order). T (rests x)) (sym (g .is)) t
+
+-- a cancel by the id of the order that it finds
+pub accepts-cancel : {w w′ b b′ : List ℕ} {end k j : ℕ} → k ≡ j → Accepts w w′ b b′ (cancel k) end → Accepts w w′ b b′ (cancel j) end
+accepts-cancel {w} {w′} {b} {b′} {end} q a = subst (λ (i : ℕ). Accepts w w′ b b′ (cancel i) end) q a
