@@ -26,4 +26,5 @@ pub mod SlideSteps
 pub mod MemoryLaws
 pub mod RefuseLaws
 pub mod LeaveLaws
+pub mod QuoteLaws
 pub mod ApplyLaws

@@ -1,8 +1,9 @@
--- What the engine's inner steps need and leave: an order that may enter, a meeting, matching, and the ids of the pass. Assumes nothing.
+-- What the engine's inner steps need and leave: an order that may enter, a meeting, matching, the pass and its ids. Assumes nothing.
 use Prim.Native.Nat.{ℕ, _<_}
 use mathlib.Core.Path.{_≡_}
 use mathlib.Core.List.{List, [], _∷_, map}
 use lib.ListN.{length, getD}
+use Rattle.numbers.specs.SevenBit.{Put}
 use Rattle.numbers.specs.Tests.{pick, All}
 use Rattle.book.specs.declared.Order.{Order}
 use Rattle.book.specs.Orders.{find}
@@ -15,7 +16,9 @@ use Rattle.engine.specs.Market.{restricted}
 use Rattle.engine.specs.Reports.{Report, executed, repriced}
 use Rattle.engine.specs.Working.{Worked, remainder, afterRemainder, work}
 use Rattle.engine.specs.Pass.{Effect, moveOf, passOne}
-use Rattle.engine.specs.Memory.{Ordered, Does}
+use Rattle.engine.specs.Venue.{Venue, thePass}
+use Rattle.engine.specs.Records.{reportsBytes}
+use Rattle.engine.specs.Memory.{venueOf, Ordered, Becomes, Does, withOrders, finished}
 
 -- the order o may enter the book of the words w: no order rests under its id, which is above 0, and fewer than 256 rest
 pub record MayEnter (o : Order) (w : List ℕ) : Type 0 where
@@ -62,3 +65,12 @@ idsOf os = map (λ (o : Order). o .id) os
 -- a run of words starts with them
 pub record StartsWithIds (ids : List ℕ) (os : List Order) : Type 0 where
   pub there : (k : ℕ) → k < length os → getD ids k 0 ≡ (getD os k emptyOrder) .id
+
+-- the pass over the orders of the words w, in their market
+abbrev pub passIn : List ℕ → Effect
+passIn w = let v : Venue = venueOf w in thePass (v .market) v
+
+-- that pass and the end of the event, done
+pub record PassesAndFinishes (w w′ b b′ : List ℕ) (at end : ℕ) : Type 0 where
+  pub becomes : Becomes w w′ (finished (venueOf w .lastId) (passIn w .stamp) (withOrders (passIn w .orders) (venueOf w)))
+  pub wrote : Put (reportsBytes (passIn w .reports)) at b end b′

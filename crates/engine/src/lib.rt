@@ -5,6 +5,7 @@ pub mod header;
 pub mod host;
 pub mod leave;
 pub mod open;
+mod quote;
 pub mod record;
 pub mod refusals;
 pub mod refuse;

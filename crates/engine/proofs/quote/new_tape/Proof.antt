@@ -1,0 +1,38 @@
+-- `new_tape`: the report of the restriction, the market, then the pass. Assumes nothing.
+use Rattle.engine.proofs.QuoteLaws.{tape-first, tape-may, tape-done}
+use borrow.Author.Needs.{needs}
+use Rattle.engine.proofs.quote.new_tape.Statement.{statement}
+use Rattle.engine.proofs.quote.new_tape.Tie as tie
+
+market-requires : tie.Need-market-requires
+market-requires c κs = search needs
+
+market-after-tape-requires : tie.Need-market-after-tape-requires
+market-after-tape-requires c κs = search needs
+
+report-restriction-requires : tie.Need-report-restriction-requires
+report-restriction-requires c κs =
+    let s = c .before .before .before .before .before .before in
+    tape-first (s .args .w .now) (s .args .price) (c .before .before .market .result) (c .before .market-after-tape .result) (c .before .before .market .ensures) (c .before .market-after-tape .ensures) (s .args .reports .now) (s .pre .1)
+
+set-market-requires : tie.Need-set-market-requires
+set-market-requires c κs = search needs
+
+pass-and-finish-requires : tie.Need-pass-and-finish-requires
+pass-and-finish-requires c κs =
+    let s = c .before .before .before .before .before .before .before .before .before .before .before .before .before .before .before in
+    tape-may (s .args .w .now) (s .args .price) (c .before .before .before .before .before .before .before .before .before .before .before .market .result) (c .before .before .before .before .before .before .before .before .before .before .market-after-tape .result) (c .before .before .before .before .before .before .before .before .before .before .before .market .ensures) (c .before .before .before .before .before .before .before .before .before .before .market-after-tape .ensures) (s .args .reports .now) (s .pre .1) (c .before .before .before .before .before .before .before .before .report-restriction .ensures) (c .before .before .before .before .set-market .ensures) (s .pre .0)
+
+same-length : tie.Need-same-length
+same-length c = search needs
+
+same-length-2 : tie.Need-same-length-2
+same-length-2 c = search needs
+
+returns : tie.Need-returns
+returns c =
+    let s = c .before .before .before .before .before .before .before .before .before .before .before .before .before .before .before .before .before .before .before .before in
+    tape-done (s .args .w .now) (s .args .price) (c .before .before .before .before .before .before .before .before .before .before .before .before .before .before .before .before .market .result) (c .before .before .before .before .before .before .before .before .before .before .before .before .before .before .before .market-after-tape .result) (c .before .before .before .before .before .before .before .before .before .before .before .before .before .before .before .before .market .ensures) (c .before .before .before .before .before .before .before .before .before .before .before .before .before .before .before .market-after-tape .ensures) (s .args .reports .now) (s .pre .1) (c .before .before .before .before .before .before .before .before .before .before .before .before .before .report-restriction .ensures) (c .before .before .before .before .before .before .before .before .before .set-market .ensures) (c .before .before .before .before .pass-and-finish .ensures)
+
+pub new-tape-spec : {M : Type 1} → statement M
+new-tape-spec = tie.close (tie.spec market-requires market-after-tape-requires report-restriction-requires set-market-requires pass-and-finish-requires same-length same-length-2 returns)
