@@ -1,4 +1,4 @@
--- The order that a cancel finds. Assumes nothing.
+-- The order that a cancel finds, and events said otherwise. Assumes nothing.
 use Prim.Native.Nat.{ℕ, _<_}
 use native.Mathlib.Omega.{arith}
 use mathlib.Core.Path.{_≡_, sym, _∙_, subst}
@@ -13,9 +13,9 @@ use Rattle.book.specs.Orders.{find}
 use Rattle.book.specs.Words.{emptyOrder}
 use Rattle.book.specs.Positions.{Found}
 use Rattle.book.proofs.OrderLaws.{find-found}
-use Rattle.engine.specs.declared.Event.the-variants.{Cancel as cancel}
+use Rattle.engine.specs.declared.Event.{Event}
 use Rattle.engine.specs.Refusals.{rests}
-use Rattle.engine.specs.Memory.{Accepts}
+use Rattle.engine.specs.Memory.{refusalIn, Accepts}
 
 -- an order found at a position is there, and has the id
 pub found-at : {l : List Order} {r : Position} {i id : ℕ} → Found l r (find id l) → r ≡ At i → (i < length l) × ((getD l i emptyOrder) .id ≡ id)
@@ -30,6 +30,9 @@ not-absent {l} {r} id f e t =
     let g : Found l Absent (find id l) = subst (λ (p : Position). Found l p (find id l)) e f in
     subst (λ (x : Option Order). T (rests x)) (sym (g .is)) t
 
--- a cancel by the id of the order that it finds
-pub accepts-cancel : {w w′ b b′ : List ℕ} {end k j : ℕ} → k ≡ j → Accepts w w′ b b′ (cancel k) end → Accepts w w′ b b′ (cancel j) end
-accepts-cancel {w} {w′} {b} {b′} {end} q a = subst (λ (i : ℕ). Accepts w w′ b b′ (cancel i) end) q a
+-- an event said otherwise
+pub accepts-as : {w w′ b b′ : List ℕ} {end : ℕ} {e f : Event} → e ≡ f → Accepts w w′ b b′ e end → Accepts w w′ b b′ f end
+accepts-as {w} {w′} {b} {b′} {end} q a = subst (λ (x : Event). Accepts w w′ b b′ x end) q a
+
+pub unrefused-as : (w : List ℕ) (n : ℕ) {e f : Event} → e ≡ f → refusalIn w e n ≡ none → refusalIn w f n ≡ none
+unrefused-as w n q h = subst (λ (x : Event). refusalIn w x n ≡ none) q h

@@ -1,12 +1,12 @@
 -- What the refusals have shown is what a cancel asks, and its order is found. Assumes nothing.
 use native.Mathlib.Omega.{arith}
-use mathlib.Core.Path.{_≡_, refl, sym, subst}
+use mathlib.Core.Path.{refl, sym, ap, subst}
 use Prim.Native.Nat.{ℕ}
 use borrow.Author.Needs.{needs}
 use Rattle.engine.specs.declared.Event.the-variants.{Cancel as cancel}
 use Rattle.engine.specs.Memory.{venueOf, Room, effectIn}
 use Rattle.engine.proofs.ApplyLaws.{not-refused, may-accept, reports-have-room}
-use Rattle.engine.proofs.CancelLaws.{found-at, not-absent, accepts-cancel}
+use Rattle.engine.proofs.CancelLaws.{found-at, not-absent, accepts-as}
 use Rattle.engine.proofs.apply.accept_cancel.Statement.{statement}
 use Rattle.engine.proofs.apply.accept_cancel.Tie as tie
 
@@ -41,7 +41,7 @@ same-length-2 c = search needs
 returns : tie.Need-returns
 returns c =
     let f = found-at (c .before .before .before .before .before .before .before .before .before .before .find .ensures) (c .before .before .before .before .before .before .before .before .i .given .1) in
-    accepts-cancel (f .1) (c .before .before .before .before .cancel-order .ensures)
+    accepts-as (ap cancel (f .1)) (c .before .before .before .before .cancel-order .ensures)
 
 same-length-3 : tie.Need-same-length-3
 same-length-3 c = search needs
