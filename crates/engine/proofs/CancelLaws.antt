@@ -1,9 +1,8 @@
 -- The order that a cancel finds, and events said otherwise. Assumes nothing.
 use Prim.Native.Nat.{ℕ, _<_}
-use native.Mathlib.Omega.{arith}
-use mathlib.Core.Path.{_≡_, sym, _∙_, subst}
+use mathlib.Core.Path.{_≡_, sym, subst}
 use mathlib.Core.List.{List}
-use mathlib.Core.Option.{Option, none, some}
+use mathlib.Core.Option.{Option, none}
 use lib.Dec.{T}
 use lib.ListN.{length, getD}
 use Rattle.book.specs.declared.Order.{Order}

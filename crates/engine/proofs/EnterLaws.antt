@@ -1,8 +1,8 @@
 -- What an accepted entry is made of. Assumes nothing.
 use Prim.Native.Nat.{ℕ, _+_, _^_, _≤_, _<_}
 use native.Mathlib.Omega.{arith}
-use mathlib.Core.Path.{_≡_, refl, sym, ap, _∙_, subst}
-use mathlib.Core.List.{List, [], _∷_, _++_}
+use mathlib.Core.Path.{_≡_, sym, ap, _∙_, subst}
+use mathlib.Core.List.{List, [], _∷_}
 use lib.Dec.{T}
 use lib.ListN.{length}
 use Rattle.numbers.specs.SevenBit.{Put}
@@ -15,8 +15,8 @@ use Rattle.engine.specs.declared.Entry.{Entry}
 use Rattle.engine.specs.declared.Event.the-variants.{Entry as entry}
 use Rattle.engine.specs.Reports.{Report, accepted}
 use Rattle.engine.specs.Records.{reportBytes, reportsBytes}
-use Rattle.engine.specs.Working.{orderOf, Worked, work}
-use Rattle.engine.specs.Venue.{Venue, effectOfEntry, effectOf, venueAfter}
+use Rattle.engine.specs.Working.{orderOf, work}
+use Rattle.engine.specs.Venue.{effectOfEntry, effectOf, venueAfter}
 use Rattle.engine.specs.Memory.{venueOf, Ordered, Becomes, Room, Does, withOrders, finished, effectIn, MayAccept, Accepts}
 use Rattle.engine.specs.Steps.{MayEnter}
 use Rattle.engine.proofs.SoundLaws.{SoundVenue, sound-venue}

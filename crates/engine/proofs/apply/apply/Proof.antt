@@ -1,5 +1,5 @@
 -- A refused event changes nothing; any other is done. Assumes nothing.
-use mathlib.Core.Path.{_≡_, sym, ap, _∙_}
+use mathlib.Core.Path.{sym, ap, _∙_}
 use borrow.Author.Needs.{needs}
 use Rattle.engine.specs.Calls.{refusedWith}
 use Rattle.engine.proofs.ApplyLaws.{applied-refused, applied-accepted}

@@ -1,7 +1,7 @@
 -- The order of an entry in the market of the words, with the next stamp. Assumes nothing.
 use Prim.Native.Nat.{_+_}
 use native.Mathlib.Omega.{arith}
-use mathlib.Core.Path.{_≡_, sym, ap, ap₂, _∙_, subst}
+use mathlib.Core.Path.{sym, ap, ap₂, _∙_, subst}
 use lib.Dec.{T}
 use borrow.Author.Needs.{needs}
 use Rattle.prices.specs.Prices.{isBid}

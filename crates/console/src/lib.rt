@@ -1,0 +1,87 @@
+// Plays a stream of events, a close and then event records, and prints each report as a line of kind and fields and "0 n" for refusal n:
+// document 01, "Program `venue`". What is printed is gathered in a buffer and written in large pieces.
+mod line;
+
+use engine::Answer;
+use engine::Event;
+use engine::OpenAnswer;
+use engine::RecordRead;
+use engine::apply;
+use engine::open;
+use engine::record;
+use engine::refusals;
+use numbers::NumberRead;
+use numbers::read;
+
+const HIGHEST_FIELD: u64 = 4_294_967_295;
+
+// Plays one input.
+pub fn play(input: &[u8]) {
+    let mut space = io::large_buffer();
+    let out: &mut [u8] = &mut space;
+    let end = play_close(input, out);
+    line::flush(out, end);
+}
+
+// "a close as one seven-bit number (9, 10 or 12 as in a record, then 3), then records"
+fn play_close(input: &[u8], out: &mut [u8]) -> usize {
+    match read::read_number(input, 0) {
+        NumberRead::MissingByte => line::put_refusal(out, 0, 9),
+        NumberRead::BadNumber => line::put_refusal(out, 0, 10),
+        NumberRead::Value { value, end } => {
+            if value > HIGHEST_FIELD {
+                return line::put_refusal(out, 0, 12);
+            }
+            play_day(input, end, value as u32, out)
+        }
+    }
+}
+
+// Opens the venue and plays the records behind the close.
+fn play_day(input: &[u8], from: usize, close: u32, out: &mut [u8]) -> usize {
+    let opened = open::open(close);
+    let answer = opened.answer;
+    match answer {
+        OpenAnswer::NotOpened(refusal) => line::put_refusal(out, 0, refusals::number_of(refusal)),
+        OpenAnswer::Fresh => {
+            let mut words = opened.words;
+            play_records(&mut words, input, from, out)
+        }
+    }
+}
+
+// "9 to 12 .. end it. An input that ends right after the close or after a record prints nothing for that end"
+fn play_records(words: &mut [u32], input: &[u8], from: usize, out: &mut [u8]) -> usize {
+    let mut space = [0u8; 16384];
+    let reports: &mut [u8] = &mut space;
+    let mut next = from;
+    let mut at = 0;
+    while next < input.len() {
+        match record::read_record(input, next) {
+            RecordRead::Refused(refusal) => {
+                return line::put_refusal(out, at, refusals::read_number_of(refusal));
+            }
+            RecordRead::Record { event, end } => {
+                at = play_event(words, event, reports, out, at);
+                if end <= next {
+                    return at;
+                }
+                next = end;
+            }
+        }
+    }
+    at
+}
+
+fn play_event(
+    words: &mut [u32],
+    event: Event,
+    reports: &mut [u8],
+    out: &mut [u8],
+    at: usize,
+) -> usize {
+    match apply::apply(words, event, reports) {
+        Answer::Refused(refusal) => line::put_refusal(out, at, refusals::number_of(refusal)),
+        Answer::Accepted(count) => line::put_reports(out, at, reports, count),
+    }
+}
