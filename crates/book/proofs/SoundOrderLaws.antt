@@ -1,25 +1,13 @@
 -- Laws of the conditions on one order, in the groups of the record walk. Assumes nothing.
 use Prim.Native.Nat.{ℕ}
-use mathlib.Core.Path.{_≡_, refl}
-use mathlib.Core.Bool.{Bool, true, false, _&&_}
+use mathlib.Core.Path.{_≡_}
+use mathlib.Core.Bool.{_&&_}
 use lib.Dec.{T, leb, eqb}
-use Rattle.numbers.proofs.TestLaws.{and-T, T-and, conj-T, T-conj}
+use Rattle.numbers.proofs.TestLaws.{and-T, T-and, bool-ext, conj-T, T-conj}
 use Rattle.prices.specs.Prices.{legal}
 use Rattle.book.specs.declared.Order.{Order}
 use Rattle.book.specs.Sound.{mostShares, orderConditions, soundOrder}
 use Rattle.book.specs.RecordWalk.{fromOne, codesSound, pricesSound}
-
-pub and-yes : {a : Bool} (b : Bool) → a ≡ true → (a && b) ≡ b
-and-yes b e = rw e
-
-pub and-no : {a : Bool} (b : Bool) → a ≡ false → (a && b) ≡ false
-and-no b e = rw e
-
-pub bool-ext : (a b : Bool) → (T a → T b) → (T b → T a) → a ≡ b
-bool-ext true true f g = refl
-bool-ext true false f g = absurd (f tt)
-bool-ext false true f g = absurd (g tt)
-bool-ext false false f g = refl
 
 pub sound-groups : (lastId lastStamp : ℕ) (o : Order) → soundOrder lastId lastStamp o ≡ (leb (o .id) lastId && (fromOne (o .shares) mostShares && (fromOne (o .stamp) lastStamp && (codesSound (o .mark) (o .show) (o .life) (o .slide) && pricesSound (o .limit) (o .price) (o .«entry_bid»)))))
 unfolding soundOrder fromOne codesSound pricesSound

@@ -2,7 +2,7 @@
 use Prim.Native.Nat.{ℕ, _+_, _≤_, _<_, zero-le}
 use native.Mathlib.Nat.{not-suc-le-zero}
 use native.Mathlib.Omega.{arith}
-use mathlib.Core.Path.{_≡_, refl, sym, _∙_, subst}
+use mathlib.Core.Path.{_≡_, refl, _∙_, subst}
 use mathlib.Core.Bool.{Bool, true, false, not}
 use mathlib.Core.List.{List}
 use lib.Dec.{T, T-not}
@@ -36,16 +36,6 @@ yes false t = absurd t
 no : (b : Bool) → (T b → ⊥) → false ≡ b
 no true f = absurd (f tt)
 no false f = refl
-
--- a test by its negation
-
-pub not-yes : (b : Bool) → not b ≡ true → b ≡ false
-not-yes true e = sym e
-not-yes false e = refl
-
-pub not-no : (b : Bool) → not b ≡ false → b ≡ true
-not-no true e = refl
-not-no false e = sym e
 
 module _ (lastId lastStamp : ℕ) (w : List ℕ) where
   pub walked-start : venueWords ≤ length w → getD w 0 0 ≤ 256 → Walked lastId lastStamp w (replicate 256 0) (replicate 256 0) 0

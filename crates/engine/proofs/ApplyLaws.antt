@@ -3,13 +3,13 @@
 use Prim.Native.Nat.{ℕ}
 use native.Mathlib.Omega.{arith}
 use mathlib.Core.Path.{_≡_, refl, ap, subst}
-use mathlib.Core.Bool.{Bool, true, false, not}
+use mathlib.Core.Bool.{Bool, true, false}
 use mathlib.Core.Option.{Option, none, some}
 use mathlib.Core.List.{List}
 use lib.Dec.{T, leb→le}
 use lib.ListN.{length}
 use Rattle.numbers.specs.Answers.{gives, refuses}
-use Rattle.numbers.proofs.TestLaws.{by-test}
+use Rattle.numbers.proofs.TestLaws.{by-test, T-true, T-false, and-yes, and-no}
 use Rattle.book.specs.Words.{isBook}
 use Rattle.book.proofs.WordLaws.{book-isBook}
 use Rattle.engine.specs.declared.Event.{Event}
@@ -21,16 +21,8 @@ use Rattle.engine.specs.RoundTrips.{Word}
 use Rattle.engine.specs.Memory.{venueOf, soundWords, refusalIn, Room, effectIn, MayAccept, Accepts}
 use Rattle.engine.specs.Calls.{stepIn, Applied}
 use Rattle.engine.proofs.RefusalLaws.{Allowed, NotRefused, Unless, refusalOfKind-known}
-use Rattle.engine.proofs.RefuseLaws.{and-yes, and-no, refuse-no, words-ordered, words-sound}
+use Rattle.engine.proofs.RefuseLaws.{refuse-no, words-ordered, words-sound}
 use Rattle.engine.proofs.BoundLaws.{reports-room}
-
-T-true : (b : Bool) → T b → b ≡ true
-T-true true t = refl
-T-true false t = absurd t
-
-T-false : (b : Bool) → T (not b) → b ≡ false
-T-false true t = absurd t
-T-false false t = refl
 
 -- the step of words is what the refusals over them say
 pub step-by-refusal : (w : List ℕ) (e : Event) (n : ℕ) → stepIn w e n ≡ stepUnless (refusalIn w e n) (venueOf w) e

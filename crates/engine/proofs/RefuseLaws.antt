@@ -2,7 +2,7 @@
 -- Assumes nothing.
 use Prim.Native.Nat.{ℕ, _<_}
 use native.Mathlib.Omega.{arith}
-use mathlib.Core.Path.{_≡_, refl}
+use mathlib.Core.Path.{_≡_}
 use mathlib.Core.Bool.{Bool, true, false, _&&_}
 use mathlib.Core.Option.{Option, none, some}
 use mathlib.Core.List.{List}
@@ -10,7 +10,7 @@ use lib.Dec.{T, leb, le→leb}
 use lib.ListN.{length, getD}
 use borrow.Author.Tests.{lt-leb}
 use Rattle.numbers.specs.Tests.{conj}
-use Rattle.numbers.proofs.TestLaws.{and-T, T-and, Each, conj-T, T-conj, every-T, T-every}
+use Rattle.numbers.proofs.TestLaws.{and-T, T-and, bool-ext, Each, conj-T, T-conj, every-T, T-every}
 use Rattle.book.specs.declared.Order.{Order}
 use Rattle.book.specs.Sound.{soundOrder}
 use Rattle.book.specs.Words.{venueWords, resting, isBook, soundBook}
@@ -37,22 +37,6 @@ pub absent-refused : {x : Option Order} → x ≡ none → refuseUnless (rests x
 unfolding refuseUnless rests
 absent-refused e = rw e
 
-same-tests : (a b : Bool) → (T a → T b) → (T b → T a) → a ≡ b
-same-tests true true f g = refl
-same-tests true false f g = absurd (f tt)
-same-tests false true f g = absurd (g tt)
-same-tests false false f g = refl
-
-pub and-yes : {a : Bool} (b : Bool) → a ≡ true → (a && b) ≡ b
-and-yes b e = rw e
-
-pub and-no : {a : Bool} (b : Bool) → a ≡ false → (a && b) ≡ false
-and-no b e = rw e
-
-pub and-last : (b : Bool) → (b && true) ≡ b
-and-last true = refl
-and-last false = refl
-
 -- words that are sound
 
 module _ (w : List ℕ) where
@@ -74,7 +58,7 @@ module _ (w : List ℕ) where
   -- the header first, then the orders in one walk
   pub header-first : soundWords w ≡ (conj (headerConditions (venueOf w)) && BookTests)
   unfolding soundWords sound venueOf
-  header-first = same-tests (soundWords w) (conj (headerConditions (venueOf w)) && BookTests) there back
+  header-first = bool-ext (soundWords w) (conj (headerConditions (venueOf w)) && BookTests) there back
     where
       few : T (isBook w) → T (leb (length (resting w)) mostOrders)
       few t = le→leb (length (resting w)) mostOrders (omega (arith, resting-length w, isBook-laidOut w t .few))

@@ -7,7 +7,7 @@ use mathlib.Core.List.{List, [], _∷_, _++_, map, foldl, List·Memᴰ}
 use lib.Dec.{T}
 use lib.ListN.{length, length-map}
 use Rattle.numbers.specs.Tests.{All}
-use Rattle.numbers.proofs.TestLaws.{by-test, all-map, map-all}
+use Rattle.numbers.proofs.TestLaws.{by-test, all-map, map-all, all-append}
 use Rattle.prices.specs.Prices.{legal, isBid}
 use Rattle.prices.proofs.PriceLaws.{legal-out}
 use Rattle.book.specs.declared.Order.{Order}
@@ -34,10 +34,6 @@ use Rattle.engine.specs.RoundTrips.{Word, ReportWords}
 use Rattle.engine.proofs.RefusalLaws.{Allowed, NotRefused}
 use Rattle.book.proofs.OrderConditionLaws.{MayWork}
 use Rattle.engine.proofs.SoundLaws.{SoundBook, SoundWork, book-distinct, book-order, RemainderOf, remainder-known, meeting-sound, MoveSound, moveOf-sound, atNewPrice-sound, passOne-sound, SoundVenue, sound-venue, workingPrice-legal, orderOf-sound, marketAfter-sound}
-
-all-append : {A : Type 0} (P : A → Type 0) (xs ys : List A) → All P xs → All P ys → All P (xs ++ ys)
-all-append P [] ys h k = k
-all-append P (x ∷ xs) ys h k = (h .0, all-append P xs ys (h .1) k)
 
 -- the fields of an order that reports have
 

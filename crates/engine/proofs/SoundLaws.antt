@@ -18,6 +18,7 @@ use Rattle.book.specs.Matching.{Matched, meeting, matching, afterTrade}
 use Rattle.book.specs.Sound.{soundOrder}
 use Rattle.book.proofs.OrderLaws.{idOf, stampOf, Other, Differ, Distinct, taken-all, all-taken, differ-taken, taken-length, mem-taken, insert-taken, without-all, without-other, without-differ, without-length, Found, find-found}
 use Rattle.book.proofs.RisingLaws.{Rises, idsRise-rises, rises-idsRise, rises-all, rises-distinct, rises-without, rises-insert, rises-afterTrade}
+use Rattle.book.proofs.SoundBookLaws.{stampsDiffer-differ, differ-stampsDiffer}
 use Rattle.book.proofs.MeetingLaws.{meeting-known}
 use Rattle.book.proofs.MatchingLaws.{afterTrade-all, afterTrade-differ, afterTrade-length, matching-keeps, unread}
 use Rattle.engine.specs.declared.Market.{Market}

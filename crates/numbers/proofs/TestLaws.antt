@@ -4,7 +4,7 @@ use native.Mathlib.Omega.{arith}
 use mathlib.Core.Path.{_≡_, refl, sym, _∙_, subst}
 use mathlib.Core.Bool.{Bool, true, false, not, _&&_, _||_}
 use mathlib.Core.Logic.{_⊎_, inl, inr}
-use mathlib.Core.List.{List, [], _∷_, map}
+use mathlib.Core.List.{List, [], _∷_, _++_, map}
 use lib.Dec.{T, eqb, leb→le, nleb→lt, eqb→eq, eqb-refl, not-T, T-not}
 use Rattle.numbers.specs.Tests.{pick, conj, every, All}
 
@@ -68,6 +68,40 @@ pub notnot-T : (a : Bool) → T (not (not a)) → T a
 notnot-T true h = tt
 notnot-T false h = h
 
+-- the same as equations
+
+pub T-true : (b : Bool) → T b → b ≡ true
+T-true true h = refl
+T-true false h = absurd h
+
+pub T-false : (b : Bool) → T (not b) → b ≡ false
+T-false true h = absurd h
+T-false false h = refl
+
+pub not-yes : (b : Bool) → not b ≡ true → b ≡ false
+not-yes true e = sym e
+not-yes false e = refl
+
+pub not-no : (b : Bool) → not b ≡ false → b ≡ true
+not-no true e = refl
+not-no false e = sym e
+
+pub and-yes : {a : Bool} (b : Bool) → a ≡ true → (a && b) ≡ b
+and-yes b e = rw e
+
+pub and-no : {a : Bool} (b : Bool) → a ≡ false → (a && b) ≡ false
+and-no b e = rw e
+
+pub and-last : (b : Bool) → (b && true) ≡ b
+and-last true = refl
+and-last false = refl
+
+pub bool-ext : (a b : Bool) → (T a → T b) → (T b → T a) → a ≡ b
+bool-ext true true f g = refl
+bool-ext true false f g = absurd (f tt)
+bool-ext false true f g = absurd (g tt)
+bool-ext false false f g = refl
+
 -- each test of a list, as a tuple
 abbrev pub Each : List Bool → Type 0
 Each [] = Unit {0}
@@ -120,3 +154,7 @@ all-both f (x ∷ xs) h k = (f x (h .0) (k .0), all-both f xs (h .1) (k .1))
 pub map-all : {A B : Type 0} (P : B → Type 0) (f : A → B) (xs : List A) → All (λ (x : A). P (f x)) xs → All P (map f xs)
 map-all P f [] h = tt
 map-all P f (x ∷ xs) h = (h .0, map-all P f xs (h .1))
+
+pub all-append : {A : Type 0} (P : A → Type 0) (xs ys : List A) → All P xs → All P ys → All P (xs ++ ys)
+all-append P [] ys h k = k
+all-append P (x ∷ xs) ys h k = (h .0, all-append P xs ys (h .1) k)

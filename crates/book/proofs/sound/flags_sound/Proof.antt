@@ -4,7 +4,7 @@ use mathlib.Core.Path.{sym, ap, _∙_, subst}
 use borrow.Author.Tests.{le-leb, lt-leb}
 use lib.Dec.{leb}
 use Rattle.book.specs.Words.{word, flagsAt}
-use Rattle.book.proofs.SoundOrderLaws.{and-yes, and-no}
+use Rattle.numbers.proofs.TestLaws.{and-yes, and-no}
 use borrow.Author.Needs.{needs}
 use Rattle.book.proofs.sound.flags_sound.Statement.{statement}
 use Rattle.book.proofs.sound.flags_sound.Tie as tie

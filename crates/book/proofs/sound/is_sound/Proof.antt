@@ -4,8 +4,9 @@ use Prim.Native.Nat.{ℕ, _-_}
 use mathlib.Core.Path.{_≡_, refl, sym, ap, _∙_}
 use native.Mathlib.Omega.{arith}
 use lib.ListN.{getD}
+use Rattle.numbers.proofs.TestLaws.{not-yes, not-no}
 use Rattle.book.specs.RecordWalk.{lastIn}
-use Rattle.book.proofs.WalkLaws.{Walked, walked-start, walked-more, walked-all, too-short, too-many, not-yes, not-no, unsound-place, seen-stamp}
+use Rattle.book.proofs.WalkLaws.{Walked, walked-start, walked-more, walked-all, too-short, too-many, unsound-place, seen-stamp}
 use Rattle.book.proofs.sound.is_sound.Statement.{statement}
 use Rattle.book.proofs.sound.is_sound.Tie as tie
 

@@ -6,7 +6,8 @@ use borrow.Author.Tests.{le-leb, lt-leb}
 use Rattle.book.specs.Sound.{mostShares}
 use Rattle.book.specs.Words.{word, orderAt}
 use Rattle.book.specs.RecordWalk.{fromOne, codesSound, pricesSound}
-use Rattle.book.proofs.SoundOrderLaws.{and-yes, and-no, sound-groups}
+use Rattle.numbers.proofs.TestLaws.{and-yes, and-no}
+use Rattle.book.proofs.SoundOrderLaws.{sound-groups}
 use borrow.Author.Needs.{needs}
 use Rattle.book.proofs.sound.order_sound.Statement.{statement}
 use Rattle.book.proofs.sound.order_sound.Tie as tie

@@ -5,7 +5,7 @@ use borrow.Author.Tests.{lt-ltb, le-ltb}
 use lib.Dec.{ltb}
 use Rattle.book.specs.Words.{word}
 use Rattle.book.specs.RecordWalk.{idBefore, soundAt}
-use Rattle.book.proofs.SoundOrderLaws.{and-yes, and-no}
+use Rattle.numbers.proofs.TestLaws.{and-yes, and-no}
 use borrow.Author.Needs.{needs}
 use Rattle.book.proofs.sound.place_sound.Statement.{statement}
 use Rattle.book.proofs.sound.place_sound.Tie as tie

@@ -1,7 +1,7 @@
 -- `prices_sound` by its tests. Assumes nothing.
 use mathlib.Core.Path.{sym, _∙_}
 use Rattle.book.specs.RecordWalk.{pricesSound}
-use Rattle.book.proofs.SoundOrderLaws.{and-yes, and-no}
+use Rattle.numbers.proofs.TestLaws.{and-yes, and-no}
 use borrow.Author.Needs.{needs}
 use Rattle.book.proofs.sound.prices_sound.Statement.{statement}
 use Rattle.book.proofs.sound.prices_sound.Tie as tie

@@ -5,7 +5,7 @@ use lib.ListN.{length, getD}
 use Rattle.book.specs.Words.{resting}
 use borrow.Author.Tests.{lt-ltb, le-ltb, le-leb, lt-leb}
 use Rattle.book.specs.Sound.{mostShares}
-use Rattle.book.proofs.WalkLaws.{not-yes, not-no}
+use Rattle.numbers.proofs.TestLaws.{not-yes, not-no}
 use Rattle.engine.specs.Sound.{mostOrders}
 use Rattle.engine.specs.Refusals.{refusalOfKind}
 use Rattle.engine.specs.Memory.{venueOf}

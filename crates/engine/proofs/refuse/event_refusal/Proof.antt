@@ -3,8 +3,7 @@ use mathlib.Core.Path.{sym, _∙_}
 use native.Mathlib.Omega.{arith}
 use lib.ListN.{getD}
 use borrow.Author.Tests.{lt-ltb, le-ltb, le-leb, lt-leb}
-use Rattle.numbers.proofs.TestLaws.{answered-T}
-use Rattle.book.proofs.WalkLaws.{not-yes, not-no}
+use Rattle.numbers.proofs.TestLaws.{answered-T, not-yes, not-no}
 use Rattle.engine.specs.Sound.{mostEvents}
 use Rattle.engine.specs.Refusals.{leastBuffer}
 use Rattle.engine.specs.Memory.{venueOf, refusalIn}

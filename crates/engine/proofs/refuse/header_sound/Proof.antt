@@ -1,10 +1,9 @@
 -- `header_sound` by its tests, in their order. Assumes nothing.
 use mathlib.Core.Path.{sym, _∙_}
 use borrow.Author.Tests.{le-leb, lt-leb}
-use Rattle.book.proofs.WalkLaws.{not-yes, not-no}
+use Rattle.numbers.proofs.TestLaws.{not-yes, not-no, and-yes, and-no, and-last}
 use Rattle.engine.specs.Sound.{mostEvents}
 use Rattle.engine.specs.Memory.{venueOf}
-use Rattle.engine.proofs.RefuseLaws.{and-yes, and-no, and-last}
 use borrow.Author.Needs.{needs}
 use Rattle.engine.proofs.refuse.header_sound.Statement.{statement}
 use Rattle.engine.proofs.refuse.header_sound.Tie as tie
