@@ -9,7 +9,6 @@ use Rattle.numbers.specs.SevenBit.{Put}
 use Rattle.numbers.proofs.TestLaws.{all-map}
 use Rattle.prices.specs.Prices.{isBid}
 use Rattle.book.specs.declared.Order.{Order}
-use Rattle.book.specs.Sound.{idsRise}
 use Rattle.book.specs.Words.{resting}
 use Rattle.engine.specs.declared.Entry.{Entry}
 use Rattle.engine.specs.declared.Event.the-variants.{Entry as entry}
@@ -20,15 +19,8 @@ use Rattle.engine.specs.Venue.{effectOfEntry, effectOf, venueAfter}
 use Rattle.engine.specs.Memory.{venueOf, Ordered, Becomes, Room, Does, withOrders, finished, effectIn, MayAccept, Accepts}
 use Rattle.engine.specs.Steps.{MayEnter}
 use Rattle.engine.proofs.SoundLaws.{SoundVenue, sound-venue}
-use Rattle.engine.proofs.MemoryLaws.{becomes-then, holds-becomes}
+use Rattle.engine.proofs.MemoryLaws.{becomes-then, does-becomes}
 use Rattle.engine.proofs.StepLaws.{room-as, room-first, room-one, room-then, put-one, does-report, does-then}
-
--- a step of the engine, as what the words become
-pub does-becomes : {w w′ b b′ : List ℕ} {at e : ℕ} {os : List Order} {rs : List Report} → Does w w′ b b′ at os rs e → Becomes w w′ (withOrders os (venueOf w))
-does-becomes {w} {w′} {os = os} d =
-    holds-becomes
-    (subst (λ (l : List Order). T (idsRise 0 l)) (d .orders) (d .ordered .rises))
-    (record { book = d .ordered .book; rests = d .orders; size = d .same .size; header = d .same .header; behind = d .same .behind })
 
 accept-sound : {w : List ℕ} → MayAccept w → SoundVenue (venueOf w)
 accept-sound {w} a = sound-venue (venueOf w) (a .sound)

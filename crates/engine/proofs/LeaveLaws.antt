@@ -2,49 +2,35 @@
 use Prim.Native.Nat.{ℕ, _+_, _≤_, _<_}
 use native.Mathlib.Omega.{arith}
 use native.Mathlib.Numerals.{add-one}
-use mathlib.Core.Path.{_≡_, refl, sym, ap, _∙_, subst}
-use mathlib.Core.List.{List, [], _∷_, _++_, map, append-nil, append-assoc}
+use mathlib.Core.Path.{_≡_, sym, ap, _∙_, subst}
+use mathlib.Core.List.{List, [], _∷_, _++_, map}
 use lib.ListN.{length, getD, drop, drop-of-length-le, length-append}
 use lib.Seq.{drop-cons}
 use Rattle.numbers.specs.SevenBit.{Put}
 use Rattle.numbers.proofs.PlaceLaws.{length-overwrite}
-use Rattle.numbers.proofs.WriteLaws.{Remaining, remaining-all, remaining-put, remaining-none}
+use Rattle.numbers.proofs.WriteLaws.{put-then, Remaining}
 use Rattle.book.specs.declared.Order.{Order}
-use Rattle.book.specs.Orders.{restingShares, without}
+use Rattle.book.specs.Orders.{without}
 use Rattle.book.specs.Sound.{idsRise}
 use Rattle.book.specs.Words.{emptyOrder, resting, Holds}
-use Rattle.book.proofs.OrderLaws.{Found, find-found, shares-found}
-use Rattle.book.proofs.RisingLaws.{Rises, idsRise-rises, rises-idsRise, rises-distinct, rises-without}
-use Rattle.book.proofs.PositionLaws.{find-at}
+use Rattle.book.proofs.RisingLaws.{idsRise-rises, rises-idsRise, rises-without}
+use Rattle.book.proofs.PositionLaws.{shares-at}
 use Rattle.engine.specs.declared.Market.{Market}
 use Rattle.engine.specs.declared.Event.{Event}
 use Rattle.engine.specs.declared.Event.the-variants.{Cancel as cancel, DayEnd as dayEnd}
 use Rattle.engine.specs.Market.{marketAfter}
-use Rattle.engine.specs.Reports.{Report, cancelled, dayEnded, askedFor, endOfDay}
+use Rattle.engine.specs.Reports.{cancelled, dayEnded, askedFor, endOfDay}
 use Rattle.engine.specs.Venue.{Venue, effectOfCancel, cancelledAtEnd, effectOfDayEnd, effectOf, venueAfter}
 use Rattle.engine.specs.Sound.{mostEvents}
 use Rattle.engine.specs.Records.{reportBytes, reportsBytes}
 use Rattle.engine.specs.Memory.{venueOf, Ordered, Becomes, Room, inMarket, withOrders, finished, effectIn, MayAccept, Accepts}
+use Rattle.engine.proofs.StepLaws.{reports-one, reports-append}
 use Rattle.engine.proofs.MemoryLaws.{becomes-then, becomes-as, holds-becomes}
 
 -- bytes of reports
 
-one-report : (r : Report) → reportsBytes (r ∷ []) ≡ reportBytes r
-unfolding reportsBytes
-one-report r = append-nil (reportBytes r)
-
-reports-append : (rs qs : List Report) → reportsBytes (rs ++ qs) ≡ reportsBytes rs ++ reportsBytes qs
-unfolding reportsBytes
-reports-append [] qs = refl
-reports-append (r ∷ rs) qs =
-    ap (λ (l : List ℕ). reportBytes r ++ l) (reports-append rs qs) ∙ sym (append-assoc (reportBytes r) (reportsBytes rs) (reportsBytes qs))
-
 pub remaining-as : {before all bytes rest more : List ℕ} {at i : ℕ} → rest ≡ more → Remaining before at all bytes i rest → Remaining before at all bytes i more
 remaining-as {before} {all} {bytes} {at = at} {i = i} e r = subst (λ (l : List ℕ). Remaining before at all bytes i l) e r
-
-put-then : {x y b b₁ b′ : List ℕ} {at m e : ℕ} → at + length (x ++ y) ≤ length b → Put x at b m b₁ → Put y m b₁ e b′ → Put (x ++ y) at b e b′
-put-then {x} {y} {b} {at = at} room p q =
-    remaining-none room (remaining-put room y [] (remaining-as (sym (append-nil y)) (remaining-put room x y (remaining-all b at (x ++ y)) p)) q)
 
 -- an event that leaves the last id and the last stamp
 
@@ -56,11 +42,6 @@ accepts-as a p = record { ordered = a .ordered; venue = a .venue; same = a .same
 
 -- a cancel
 
-shares-at : (os : List Order) (i : ℕ) → Rises 0 os → i < length os → restingShares ((getD os i emptyOrder) .id) os ≡ (getD os i emptyOrder) .shares
-shares-at os i r h =
-    let o : Order = getD os i emptyOrder in
-    shares-found (subst (Found (o .id) os) (find-at 0 os emptyOrder i r h) (find-found (o .id) os) .0) (rises-distinct 0 os r)
-
 module _ (w : List ℕ) (i : ℕ) (a : MayAccept w) (h : i < length (resting w)) where
   abbrev TheId : ℕ
   TheId = (getD (resting w) i emptyOrder) .id
@@ -68,7 +49,7 @@ module _ (w : List ℕ) (i : ℕ) (a : MayAccept w) (h : i < length (resting w))
   pub cancel-bytes : (o : Order) → o ≡ getD (resting w) i emptyOrder → reportsBytes (effectIn w (cancel TheId) .reports) ≡ reportBytes (cancelled (o .id) (o .shares) askedFor)
   unfolding effectIn effectOf effectOfCancel venueOf
   cancel-bytes o e =
-      one-report _ ∙ ap (λ (q : ℕ). reportBytes (cancelled TheId q askedFor)) (shares-at (resting w) i (idsRise-rises 0 (resting w) (a .ordered .rises)) h) ∙ ap (λ (x : Order). reportBytes (cancelled (x .id) (x .shares) askedFor)) (sym e)
+      reports-one _ ∙ ap (λ (q : ℕ). reportBytes (cancelled TheId q askedFor)) (shares-at 0 (resting w) emptyOrder i (idsRise-rises 0 (resting w) (a .ordered .rises)) h) ∙ ap (λ (x : Order). reportBytes (cancelled (x .id) (x .shares) askedFor)) (sym e)
 
   taken-out : {w₁ : List ℕ} → Holds w w₁ (without TheId (resting w)) → Becomes w w₁ (withOrders (without TheId (resting w)) (venueOf w))
   taken-out =
@@ -99,7 +80,7 @@ module _ (w : List ℕ) (close : ℕ) (m : Market) (e : m ≡ marketAfter (dayEn
   pub day-bytes : reportsBytes (effectIn w (dayEnd close) .reports) ≡ Cancels ++ reportBytes (dayEnded (m .phase))
   unfolding effectIn effectOf effectOfDayEnd venueOf
   day-bytes =
-      reports-append (map cancelledAtEnd (resting w)) (dayEnded _ ∷ []) ∙ ap (λ (l : List ℕ). Cancels ++ l) (one-report _ ∙ ap (λ (x : Market). reportBytes (dayEnded (x .phase))) (sym e))
+      reports-append (map cancelledAtEnd (resting w)) (dayEnded _ ∷ []) ∙ ap (λ (l : List ℕ). Cancels ++ l) (reports-one _ ∙ ap (λ (x : Market). reportBytes (dayEnded (x .phase))) (sym e))
 
   module _ (b : List ℕ) (room : Room b 0 (effectIn w (dayEnd close) .reports)) where
     both-fit : length Cancels + length (reportBytes (dayEnded (m .phase))) ≤ length b
@@ -129,4 +110,4 @@ module _ (w : List ℕ) (close : ℕ) (m : Market) (e : m ≡ marketAfter (dayEn
   pub day-done : {w₂ w′ b b₁ b′ : List ℕ} {at end : ℕ} → Room b 0 (effectIn w (dayEnd close) .reports) → Put Cancels 0 b at b₁ → Put (reportBytes (dayEnded (m .phase))) at b₁ end b′ → Becomes w w₂ (inMarket m (withOrders [] (venueOf w))) → Becomes w₂ w′ (finished (venueOf w₂ .lastId) (venueOf w₂ .lastStamp) (venueOf w₂)) → Accepts w w′ b b′ (dayEnd close) end
   unfolding effectIn effectOf effectOfDayEnd venueOf
   day-done {b = b} {b′ = b′} {end = end} r p q g f =
-      accepts-as (becomes-as (accepted-same g f) (ap (λ (x : Market). finished (venueOf w .lastId) (venueOf w .lastStamp) (inMarket x (withOrders [] (venueOf w)))) e)) (subst (λ (l : List ℕ). Put l 0 b end b′) (sym day-bytes) (put-then (omega (arith, ap length day-bytes)) p q))
+      accepts-as (becomes-as (accepted-same g f) (ap (λ (x : Market). finished (venueOf w .lastId) (venueOf w .lastStamp) (inMarket x (withOrders [] (venueOf w)))) e)) (subst (λ (l : List ℕ). Put l 0 b end b′) (sym day-bytes) (put-then _ (omega (arith, ap length day-bytes)) p q))

@@ -1,7 +1,7 @@
 -- What writing header words and taking orders out does to the venue of the words. Assumes nothing.
 use Prim.Native.Nat.{ℕ, _+_, _<_}
 use native.Mathlib.Omega.{arith}
-use mathlib.Core.Path.{_≡_, sym, ap, _∙_}
+use mathlib.Core.Path.{_≡_, sym, ap, _∙_, subst}
 use mathlib.Core.List.{List}
 use lib.Dec.{T, eqb, eqb→eq}
 use lib.ListN.{length, getD, length-set}
@@ -13,7 +13,8 @@ use Rattle.book.specs.Sound.{idsRise}
 use Rattle.book.specs.Words.{resting, Holds, HeaderSet}
 use Rattle.engine.specs.declared.Market.{Market}
 use Rattle.engine.specs.Venue.{Venue}
-use Rattle.engine.specs.Memory.{venueOf, Ordered, Becomes, inMarket, withOrders, finished}
+use Rattle.engine.specs.Reports.{Report}
+use Rattle.engine.specs.Memory.{venueOf, Ordered, Becomes, Does, inMarket, withOrders, finished}
 
 -- a venue by its parts
 venue-as : (w : List ℕ) (v : Venue) → getD w 1 0 ≡ v.market.close → getD w 2 0 ≡ v.market.phase → getD w 3 0 ≡ v.market.bid → resting w ≡ v.orders → getD w 4 0 ≡ v.lastId → getD w 5 0 ≡ v.lastStamp → getD w 6 0 ≡ v.acceptedEvents → venueOf w ≡ v
@@ -58,6 +59,13 @@ holds-becomes {w} {w′} {os} t h =
   where
     k : (j : ℕ) → 0 < j → j < 16 → getD w′ j 0 ≡ getD w j 0
     k = h .header
+
+-- a step of the engine, as what the words become
+pub does-becomes : {w w′ b b′ : List ℕ} {at e : ℕ} {os : List Order} {rs : List Report} → Does w w′ b b′ at os rs e → Becomes w w′ (withOrders os (venueOf w))
+does-becomes {w} {w′} {os = os} d =
+    holds-becomes
+    (subst (λ (l : List Order). T (idsRise 0 l)) (d .orders) (d .ordered .rises))
+    (record { book = d .ordered .book; rests = d .orders; size = d .same .size; header = d .same .header; behind = d .same .behind })
 
 -- a header word
 

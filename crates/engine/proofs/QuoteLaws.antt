@@ -10,20 +10,18 @@ use Rattle.numbers.proofs.TestLaws.{pick-yes, pick-no, eq→T, ne→T}
 use Rattle.numbers.proofs.WriteLaws.{put-then}
 use Rattle.prices.specs.Prices.{isBid}
 use Rattle.prices.proofs.RestrictionLaws.{tape-phase}
-use Rattle.book.specs.declared.Order.{Order}
-use Rattle.book.specs.Sound.{idsRise}
 use Rattle.book.specs.Words.{resting}
 use Rattle.engine.specs.declared.Market.{Market}
 use Rattle.engine.specs.declared.Event.the-variants.{Bid as bid, Tape as tape}
 use Rattle.engine.specs.Market.{marketAfter}
-use Rattle.engine.specs.Reports.{Report, restrictionStarts}
+use Rattle.engine.specs.Reports.{restrictionStarts}
 use Rattle.engine.specs.Pass.{Effect, passOver}
 use Rattle.engine.specs.Venue.{Venue, thePass, restrictionReport, effectOfTape, effectOf}
 use Rattle.engine.specs.Sound.{mostEvents, sound}
 use Rattle.engine.specs.Records.{reportsBytes}
-use Rattle.engine.specs.Memory.{venueOf, Ordered, Becomes, Room, Does, DoesEffect, inMarket, withOrders, finished, effectIn, MayAccept, Accepts}
+use Rattle.engine.specs.Memory.{venueOf, Ordered, Becomes, Room, DoesEffect, inMarket, withOrders, finished, effectIn, MayAccept, Accepts}
 use Rattle.engine.specs.Steps.{idsOf, passIn, PassesAndFinishes}
-use Rattle.engine.proofs.MemoryLaws.{becomes-then, becomes-as, holds-becomes}
+use Rattle.engine.proofs.MemoryLaws.{becomes-then, becomes-as, does-becomes}
 use Rattle.engine.proofs.SoundLaws.{SoundMarket, sound-venue, venue-sound}
 use Rattle.engine.proofs.StepLaws.{reports-append, put-as, room-as, room-first, room-then}
 
@@ -38,11 +36,6 @@ unfolding restrictionReport
 restriction-new k m n = pick-no _ _ _ (ne→T (k .phase) (m .phase) n)
 
 -- the pass in the market of the words, and the end of the event
-
-does-becomes : {w w₁ b b₁ : List ℕ} {at e : ℕ} {os : List Order} {rs : List Report} → Does w w₁ b b₁ at os rs e → Becomes w w₁ (withOrders os (venueOf w))
-does-becomes d =
-    holds-becomes (subst (λ (l : List Order). T (idsRise 0 l)) (d .orders) (d .ordered .rises))
-    (record { book = d .ordered .book; rests = d .orders; size = d .same .size; header = d .same .header; behind = d .same .behind })
 
 last-stamp : (w : List ℕ) {s : ℕ} → s ≡ getD w 5 0 → s ≡ venueOf w .lastStamp
 unfolding venueOf
