@@ -1,0 +1,324 @@
+//! `check`: the model alone against the paper's claims, after every event.
+
+use crate::account::{Account, Resting};
+use crate::counts::{Counts, Lent};
+use crate::model::{
+    copy_out, depth, is_legal, permitted_price, read_record, watch_tape, write_record, Event,
+    Order, RecordCheck, Refusal, Report, ReportWriter, Side, Venue, Watch, BUY, LEAST_BUFFER,
+    OPT_OUT, PLACES, SHORT,
+};
+use crate::rng::Rng;
+use crate::streams::{Session, Step};
+
+/// A claim that failed.
+type Fault = String;
+
+fn ensure(condition: bool, claim: &str) -> Result<(), Fault> {
+    if condition {
+        Ok(())
+    } else {
+        Err(claim.to_owned())
+    }
+}
+
+/// Plays sessions until so many events are over. Gives whether all claims held.
+pub fn run(seed: u64, events: u64) -> bool {
+    let mut seeds = Rng::new(seed);
+    let mut counts = Counts::default();
+    let mut lent = Lent::new();
+    while counts.events < events {
+        check_session(seeds.next(), &mut lent, &mut counts);
+    }
+    println!("{counts}");
+    counts.differences == 0
+}
+
+fn check_session(seed: u64, lent: &mut Lent, counts: &mut Counts) {
+    let mut session = Session::new(seed);
+    counts.session(session.kind);
+    let mut checked = Checked::new(&session);
+    let mut step_number = 0;
+    let mut outcome = checked.check_open();
+    while outcome.is_ok() {
+        let Some(step) = session.next(&checked.venue) else {
+            return;
+        };
+        counts.events += 1;
+        step_number += 1;
+        outcome = checked.check_step(&step, lent, counts);
+    }
+    if let Err(fault) = outcome {
+        counts.differ(seed, step_number, &fault);
+        *lent = Lent::new();
+    }
+}
+
+/// A venue under check, with the account of its events if it comes from open.
+struct Checked {
+    venue: Venue,
+    before: Venue,
+    account: Option<Account>,
+}
+
+impl Checked {
+    fn new(session: &Session) -> Self {
+        let venue = session.start.clone();
+        let from_open = session.kind.is_from_open();
+        Checked {
+            before: venue.clone(),
+            account: from_open.then(|| Account::new(venue.close)),
+            venue,
+        }
+    }
+
+    fn check_open(&self) -> Result<(), Fault> {
+        let from_open = self.account.is_some();
+        let opened = Venue::open(self.venue.close);
+        ensure(!from_open || opened.as_ref() == Ok(&self.venue), "open")
+    }
+
+    fn check_step(
+        &mut self,
+        step: &Step,
+        lent: &mut Lent,
+        counts: &mut Counts,
+    ) -> Result<(), Fault> {
+        let (event, end) = match read_record(step.record, 0) {
+            Ok(read) => read,
+            Err(refusal) => {
+                counts.refuse(refusal);
+                return Ok(());
+            }
+        };
+        check_round_trip(&event, &step.record[..end], counts.events as usize % 5)?;
+        self.before.clone_from(&self.venue);
+        let lent_buffer = lent.lend(step.buffer);
+        match self.venue.apply(&event, lent_buffer, RecordCheck::Done) {
+            Err(refusal) => {
+                counts.refuse(refusal);
+                self.check_refused(&event, refusal)?;
+                ensure(lent.keeps_from(0), "a refused event wrote reports")
+            }
+            Ok(count) => {
+                let reports = read_reports(lent.front(count))?;
+                counts.accept(count, &reports);
+                ensure(lent.keeps_from(count), "bytes behind the reports")?;
+                lent.restore(count);
+                ensure(count <= LEAST_BUFFER, "16,384 bytes")?;
+                self.check_accepted(&event, &reports)?;
+                if counts.events.is_multiple_of(32) {
+                    check_copy_out(&self.venue, counts.events as usize % 3)?;
+                }
+                Ok(())
+            }
+        }
+    }
+
+    fn check_refused(&self, event: &Event, refusal: Refusal) -> Result<(), Fault> {
+        ensure(self.venue == self.before, "a refused event changes nothing")?;
+        let is_record = refusal == Refusal::VenueRecord;
+        ensure(
+            is_record != self.venue.is_sound(),
+            "16 exactly for broken venue records",
+        )?;
+        ensure(
+            !(is_record && self.account.is_some()),
+            "no venue reached from open gets 16",
+        )?;
+        let copied = copy_out(&self.venue, &mut []);
+        ensure(
+            is_record == (copied == Err(Refusal::VenueRecord)),
+            "16 of copy out",
+        )?;
+        match *event {
+            Event::Tape { price } if refusal == Refusal::Price => check_watch(&self.before, price),
+            Event::Bid { price } if refusal == Refusal::Price => ensure(
+                permitted_price(price) == Err(Refusal::Price),
+                "the permitted price refuses what isn't a bid",
+            ),
+            _ => Ok(()),
+        }
+    }
+
+    fn check_accepted(&mut self, event: &Event, reports: &[Report]) -> Result<(), Fault> {
+        let (venue, before) = (&self.venue, &self.before);
+        ensure(venue.is_sound(), "an accepted event leaves a sound record")?;
+        ensure(venue.accepted == before.accepted + 1, "accepted events")?;
+        check_stamps(before, venue, event, reports)?;
+        match *event {
+            Event::Tape { price } => check_watch(before, price)?,
+            Event::Bid { price } => check_permitted(price)?,
+            _ => {}
+        }
+        let Some(account) = &mut self.account else {
+            return Ok(());
+        };
+        check_reached(before, venue, event, reports)?;
+        let law = account.take(event, reports);
+        law.and_then(|()| account.judge(venue.orders.iter().map(resting)))
+            .map_err(|breach| format!("demand 3: {breach:?} by {event:?}"))
+    }
+}
+
+/// What section G of the readings says of venues reached from open: shorts at
+/// or above their limits, only shorts adjusted and no opt-out among them; and a
+/// repeated bid or an idle tape price moves no order.
+fn check_reached(
+    before: &Venue,
+    after: &Venue,
+    event: &Event,
+    reports: &[Report],
+) -> Result<(), Fault> {
+    for order in &after.orders {
+        let short = order.mark == SHORT;
+        ensure(!short || order.price >= order.limit, "price below limit")?;
+        let slides = short && order.slide != OPT_OUT;
+        ensure(slides || !order.adjusted, "adjusted orders")?;
+    }
+    let idle = match *event {
+        Event::Bid { price } => price == before.bid,
+        Event::Tape { .. } => after.phase == before.phase,
+        _ => false,
+    };
+    ensure(!idle || reports.is_empty(), "an idle event moves no order")
+}
+
+/// What the law may see of a resting order.
+fn resting(order: &Order) -> Resting {
+    Resting {
+        id: order.id,
+        price: order.price,
+        shares: order.shares,
+    }
+}
+
+/// Reports read from their bytes, which must be those of the reports.
+fn read_reports(bytes: &[u8]) -> Result<Vec<Report>, Fault> {
+    let reports = Report::read_all(bytes).map_err(|refusal| format!("reports: {refusal:?}"))?;
+    let mut again = vec![0; bytes.len()];
+    let mut writer = ReportWriter::new(&mut again);
+    reports.iter().for_each(|&report| writer.put(report));
+    ensure(again == bytes, "report bytes")?;
+    Ok(reports)
+}
+
+/// A record that was read is written as the same bytes, and nothing else is
+/// written; one byte less and it doesn't fit.
+fn check_round_trip(event: &Event, record: &[u8], at: usize) -> Result<(), Fault> {
+    let mut bytes = [0xA5; 48];
+    let end = at + record.len();
+    let short = write_record(&mut bytes[..end - 1], at, event);
+    ensure(short == Err(Refusal::NoRoom), "13")?;
+    ensure(bytes == [0xA5; 48], "a refused write changes nothing")?;
+    ensure(
+        write_record(&mut bytes, at, event) == Ok(end),
+        "write's end",
+    )?;
+    ensure(bytes[at..end] == *record, "a record's bytes")?;
+    let around = [&bytes[..at], &bytes[end..]].concat();
+    let kept = around.iter().all(|&byte| byte == 0xA5);
+    ensure(kept, "bytes around a written record")?;
+    let read = read_record(&bytes, at);
+    ensure(read == Ok((*event, end)), "reading what was written")
+}
+
+/// Each accepted entry and each re-pricing takes the next stamp, nothing else
+/// does (C11), and at most 256 are taken.
+fn check_stamps(
+    before: &Venue,
+    after: &Venue,
+    event: &Event,
+    reports: &[Report],
+) -> Result<(), Fault> {
+    let mut last = before.last_stamp;
+    for report in reports {
+        if let Report::Accepted { stamp, .. } | Report::Repriced { stamp, .. } = *report {
+            last += 1;
+            ensure(stamp == last, "the next stamp")?;
+        }
+    }
+    ensure(after.last_stamp == last, "the last stamp")?;
+    let most = match event {
+        Event::Entry(_) => 1,
+        Event::Bid { .. } | Event::Tape { .. } => PLACES as u32,
+        Event::Cancel { .. } | Event::DayEnd { .. } => 0,
+    };
+    ensure(last - before.last_stamp <= most, "stamps of one event")
+}
+
+/// A host's watch follows the venue's phase through a tape price.
+fn check_watch(before: &Venue, price: u32) -> Result<(), Fault> {
+    let mut watch = Watch {
+        close: before.close,
+        phase: before.phase,
+    };
+    let answer = watch_tape(&mut watch, price);
+    let triggers = u64::from(price) * 10 <= u64::from(before.close) * 9;
+    let phase = match before.phase {
+        0 if answer.is_ok() && triggers => 1,
+        phase => phase,
+    };
+    ensure(answer.is_ok() == is_legal(price), "the watch's refusal")?;
+    ensure(watch.phase == phase, "the watch's phase")
+}
+
+/// The permitted price is the lowest legal price above the bid.
+fn check_permitted(bid: u32) -> Result<(), Fault> {
+    let above = (bid + 1..).find(|&price| is_legal(price));
+    ensure(permitted_price(bid).ok() == above, "the permitted price")
+}
+
+/// Copy out fills the front of a run that is one record short, exact or one
+/// longer; depth over it finds each displayed share once.
+fn check_copy_out(venue: &Venue, spare: usize) -> Result<(), Fault> {
+    let noise = Order {
+        id: 7,
+        mark: 9,
+        limit: 7,
+        shares: 7,
+        show: 1,
+        life: 7,
+        slide: 7,
+        stamp: 7,
+        price: 7,
+        entry_bid: 7,
+        adjusted: true,
+        used: true,
+        clear: true,
+    };
+    let len = venue.orders.len();
+    let mut run = vec![noise; (len + spare).saturating_sub(1)];
+    let answer = copy_out(venue, &mut run);
+    if run.len() < len {
+        ensure(answer == Err(Refusal::ShortRun), "14")?;
+        return ensure(run.iter().all(|order| *order == noise), "a short run");
+    }
+    ensure(answer == Ok(len), "how many were filled")?;
+    ensure(run[..len] == venue.orders, "the book copy")?;
+    ensure(run[len..].iter().all(|order| *order == noise), "the rest")?;
+    check_depth(&run)
+}
+
+fn check_depth(run: &[Order]) -> Result<(), Fault> {
+    let mut prices: Vec<u32> = run.iter().map(|order| order.price).collect();
+    prices.sort_unstable();
+    prices.dedup();
+    for side in [Side::Buy, Side::Sell] {
+        let on_side = |order: &&Order| (order.mark == BUY) == (side == Side::Buy);
+        let sound = run.iter().filter(|order| order.mark <= 3);
+        let shown = sound.filter(on_side).filter(|order| order.show == 1);
+        let total: u64 = shown.map(|order| u64::from(order.shares)).sum();
+        let depths: Result<Vec<u64>, Refusal> = prices
+            .iter()
+            .map(|&price| depth(run, price, side))
+            .collect();
+        let expected = if run.len() > PLACES {
+            Err(Refusal::LongRun)
+        } else {
+            Ok(total)
+        };
+        let found = depths.map(|depths| depths.iter().sum());
+        ensure(found == expected || prices.is_empty(), "depth")?;
+    }
+    Ok(())
+}

@@ -1,0 +1,202 @@
+//! `compare`: the proved engine and the model on the same streams.
+//!
+//! What is taken for granted of the wrappers beyond document 01: a record is
+//! read before the venue is looked at, so 9 to 12 come before 16; bytes behind
+//! the record don't matter; a refused open answers 3 × 65,536; places that the
+//! venue doesn't use may hold anything; words behind the venue keep their
+//! content.
+
+use crate::counts::{Counts, Lent};
+use crate::engine;
+use crate::model::{
+    permitted_price, read_record, Event, RecordCheck, Refusal, Report, Venue, PLACES,
+};
+use crate::rng::Rng;
+use crate::streams::{odd_number, Session, Step};
+
+/// Room for a broken record of 257 orders, and words behind the venue.
+const WORDS: usize = engine::VENUE_WORDS + 64;
+
+/// What differs.
+type Difference = String;
+
+/// Plays sessions until so many events are over. Gives whether nothing
+/// differed.
+pub fn run(seed: u64, events: u64) -> bool {
+    let mut seeds = Rng::new(seed);
+    let mut counts = Counts::default();
+    let mut pair = Pair::new(&mut seeds);
+    while counts.events < events {
+        compare_session(seeds.next(), &mut pair, &mut counts);
+    }
+    println!("{counts}");
+    counts.differences == 0
+}
+
+fn compare_session(seed: u64, pair: &mut Pair, counts: &mut Counts) {
+    let mut session = Session::new(seed);
+    counts.session(session.kind);
+    let mut step_number = 0;
+    let mut outcome = pair.start(seed, &session);
+    while outcome.is_ok() {
+        let Some(step) = session.next(&pair.venue) else {
+            return;
+        };
+        counts.events += 1;
+        step_number += 1;
+        outcome = pair.step(&step, counts).map_err(|difference| {
+            let read = read_record(step.record, 0);
+            format!("{difference}\n  in {read:?}")
+        });
+    }
+    if let Err(difference) = outcome {
+        counts.differ(seed, step_number, &difference);
+        pair.lent = [Lent::new(), Lent::new()];
+    }
+}
+
+fn same<T: PartialEq + std::fmt::Debug>(what: &str, engine: T, model: T) -> Result<(), Difference> {
+    if engine == model {
+        Ok(())
+    } else {
+        Err(format!("{what}: engine {engine:?}, model {model:?}"))
+    }
+}
+
+/// Both sides: the model's venue, the engine's words, and a buffer for each.
+struct Pair {
+    venue: Venue,
+    words: Vec<u32>,
+    before: Vec<u32>,
+    noise: Vec<u32>,
+    lent_words: usize,
+    /// The words are no venue record, which the model's venue can't say: a
+    /// wrong flag or count, or too few words lent.
+    is_no_record: bool,
+    lent: [Lent; 2],
+}
+
+impl Pair {
+    fn new(rng: &mut Rng) -> Self {
+        let noise: Vec<u32> = (0..WORDS).map(|_| rng.word()).collect();
+        Pair {
+            venue: Session::new(0).start,
+            words: noise.clone(),
+            before: noise.clone(),
+            noise,
+            lent_words: WORDS,
+            is_no_record: false,
+            lent: [Lent::new(), Lent::new()],
+        }
+    }
+
+    /// Brings both sides to the session's start.
+    fn start(&mut self, seed: u64, session: &Session) -> Result<(), Difference> {
+        let mut rng = Rng::new(!seed);
+        self.venue = session.start.clone();
+        self.words.copy_from_slice(&self.noise);
+        self.is_no_record = false;
+        self.lent_words = rng.pick(&[engine::VENUE_WORDS, WORDS]);
+        if session.kind.is_from_open() {
+            self.compare_odd_open(odd_number(&mut rng))?;
+            let close = self.venue.close;
+            let answer = engine::open(&mut self.words[..self.lent_words], close);
+            same("answer of open", answer, 0)?;
+            return self.compare_venue();
+        }
+        engine::store(&self.venue, &mut self.words);
+        if self.venue.orders.len() > PLACES {
+            self.lent_words = WORDS;
+        }
+        self.spoil(&mut rng);
+        Ok(())
+    }
+
+    /// An open with an odd number for a close: the same answer, and a refused
+    /// one changes nothing.
+    fn compare_odd_open(&mut self, close: u32) -> Result<(), Difference> {
+        let model = Venue::open(close);
+        let answer = engine::open(&mut self.words[..self.lent_words], close);
+        let expected = engine::answer_of(model.as_ref().map(|_| 0).map_err(|&refusal| refusal));
+        same("answer of open", answer, expected)?;
+        let kept = self.words == self.noise;
+        same("words kept by a refused open", kept || model.is_ok(), true)
+    }
+
+    /// Makes the words now and then something that is no venue record.
+    fn spoil(&mut self, rng: &mut Rng) {
+        let len = self.venue.orders.len();
+        match rng.up_to(39) {
+            0 if len > 0 => {
+                let flag = engine::flag_at(rng.place(len), rng.place(3));
+                self.words[flag] = rng.pick(&[2, 3, 256, u32::MAX]);
+            }
+            1 => self.words[engine::count_at()] = rng.pick(&[257, 1 << 16, 1 << 31, u32::MAX]),
+            2 => self.lent_words = rng.pick(&[0, 1, 15, 16, 100, engine::VENUE_WORDS - 1]),
+            _ => return,
+        }
+        self.is_no_record = true;
+    }
+
+    fn step(&mut self, step: &Step, counts: &mut Counts) -> Result<(), Difference> {
+        let read = read_record(step.record, 0);
+        let length = read.map_or(0, |(_, end)| end as u64);
+        same("record check", engine::record_check(step.record), length)?;
+        if let Ok((Event::Bid { price }, _)) = read {
+            let expected = permitted_price(price).unwrap_or(0);
+            same("permitted price", engine::permitted_price(price), expected)?;
+        }
+        self.before.copy_from_slice(&self.words);
+        let [engine_lent, model_lent] = &mut self.lent;
+        let answer = engine::apply(
+            &mut self.words[..self.lent_words],
+            step.record,
+            engine_lent.lend(step.buffer),
+        );
+        let expected = read.and_then(|(event, _)| {
+            if self.is_no_record {
+                return Err(Refusal::VenueRecord);
+            }
+            let buffer = model_lent.lend(step.buffer);
+            self.venue.apply(&event, buffer, RecordCheck::Done)
+        });
+        same("answer", answer, engine::answer_of(expected))?;
+        match expected {
+            Err(refusal) => {
+                counts.refuse(refusal);
+                self.compare_refused()
+            }
+            Ok(count) => self.compare_accepted(count, counts),
+        }
+    }
+
+    /// Venue, words behind it and the whole report buffer stay.
+    fn compare_refused(&self) -> Result<(), Difference> {
+        let differing = (0..WORDS).find(|&at| self.words[at] != self.before[at]);
+        same("a word after a refusal", differing, None)?;
+        let kept = self.lent[0].keeps_from(0);
+        same("report buffer after a refusal kept", kept, true)
+    }
+
+    fn compare_accepted(&mut self, count: usize, counts: &mut Counts) -> Result<(), Difference> {
+        let [engine_lent, model_lent] = &mut self.lent;
+        same("reports", engine_lent.front(count), model_lent.front(count))?;
+        let reports = Report::read_all(engine_lent.front(count));
+        let reports = reports.map_err(|refusal| format!("reports: {refusal:?}"))?;
+        counts.accept(count, &reports);
+        let kept = engine_lent.keeps_from(count);
+        same("bytes behind the reports kept", kept, true)?;
+        engine_lent.restore(count);
+        model_lent.restore(count);
+        self.compare_venue()
+    }
+
+    fn compare_venue(&self) -> Result<(), Difference> {
+        if let Some((at, found, expected)) = engine::first_difference(&self.venue, &self.words) {
+            return same(&format!("word {at} of the venue"), found, expected);
+        }
+        let behind = &self.words[engine::VENUE_WORDS..];
+        let noise = &self.noise[engine::VENUE_WORDS..];
+        same("words behind the venue", behind, noise)
+    }
+}

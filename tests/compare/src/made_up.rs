@@ -1,0 +1,131 @@
+//! Venue records that open need not reach, sound and spoilt.
+
+use crate::model::{Order, Venue, HIGHEST, MOST_EVENTS, MOST_SHARES, PLACES, SHORT};
+use crate::rng::Rng;
+use crate::streams::{near, odd_number, price_of, Market};
+
+/// So many different numbers from 1 to `last`, rising.
+fn rising(rng: &mut Rng, count: u32, last: u32) -> Vec<u32> {
+    let room = last - count;
+    let least = rng.pick(&[0, 0, room.saturating_sub(3)]);
+    let mut offsets: Vec<u32> = (0..count).map(|_| rng.between(least, room)).collect();
+    offsets.sort_unstable();
+    let numbered = (1..=count).zip(offsets);
+    numbered.map(|(number, offset)| number + offset).collect()
+}
+
+fn shuffle(rng: &mut Rng, numbers: &mut [u32]) {
+    for at in (1..numbers.len()).rev() {
+        numbers.swap(at, rng.place(at + 1));
+    }
+}
+
+/// A sound venue record that open need not reach: crossed books, prices below
+/// limits, any flags, full books, last numbers close to their ends.
+pub fn made_up(rng: &mut Rng, market: &Market) -> Venue {
+    let most = PLACES as u32;
+    let (few, some) = (rng.up_to(8), rng.up_to(most));
+    let count = rng.pick(&[few, few, few, some, most - 1, most]);
+    let any_events = rng.between(1, MOST_EVENTS);
+    let late = MOST_EVENTS - rng.up_to(3);
+    let accepted = rng.pick(&[1, any_events, any_events, any_events, late]);
+    let any_stamp = rng.between(count, most * accepted);
+    let last_stamp = rng.pick(&[count, any_stamp, most * accepted]);
+    let any_id = rng.between(count, u32::MAX);
+    let last_id = rng.pick(&[count, count + 3, any_id, u32::MAX - 2, u32::MAX]);
+    let mut stamps = rising(rng, count, last_stamp);
+    shuffle(rng, &mut stamps);
+    let bid = market.bid(rng, 0);
+    let ids = rising(rng, count, last_id).into_iter().zip(stamps);
+    Venue {
+        close: market.close(rng),
+        phase: rng.up_to(2),
+        bid,
+        last_id,
+        last_stamp,
+        accepted,
+        orders: ids
+            .map(|(id, stamp)| made_up_order(rng, market, id, stamp))
+            .collect(),
+    }
+}
+
+fn made_up_order(rng: &mut Rng, market: &Market, id: u32, stamp: u32) -> Order {
+    let mark = rng.pick(market.marks);
+    Order {
+        id,
+        mark,
+        limit: near(rng, market.centre, market.reach),
+        shares: rng.pick(&[1, 2, 3, 5, 100, MOST_SHARES]),
+        show: rng.up_to(1),
+        life: 0,
+        slide: match mark {
+            SHORT => rng.up_to(3),
+            _ => 0,
+        },
+        stamp,
+        price: near(rng, market.centre, market.reach),
+        entry_bid: market.bid(rng, 0),
+        adjusted: rng.one_in(2),
+        used: rng.one_in(2),
+        clear: rng.one_in(2),
+    }
+}
+
+/// Puts all shorts hidden below the market, so that one bid re-prices them all.
+pub fn sink_shorts(venue: &mut Venue, market: &Market) {
+    let rung = market.centre.saturating_sub(market.reach).max(1);
+    venue.phase = 1;
+    let shorts = venue.orders.iter_mut().filter(|order| order.mark == SHORT);
+    for order in shorts {
+        order.price = price_of(rung);
+        order.show = 0;
+        order.slide = 0;
+    }
+}
+
+/// Changes one thing of a venue record so that it may break a condition.
+pub fn spoil_record(rng: &mut Rng, venue: &mut Venue) {
+    let odd = odd_number(rng);
+    let len = venue.orders.len();
+    match rng.up_to(19) {
+        0 => venue.close = odd,
+        1 => venue.phase = odd,
+        2 => venue.bid = odd,
+        3 => venue.last_id = rng.up_to(venue.last_id),
+        4 => venue.last_stamp = rng.up_to(venue.last_stamp),
+        5 => venue.last_stamp = venue.last_stamp.saturating_add(rng.between(1, 300)),
+        6 => venue.accepted = odd,
+        7 if len == PLACES => {
+            let last = venue.orders[len - 1];
+            let id = last.id.saturating_add(1);
+            venue.last_id = venue.last_id.max(id);
+            venue.orders.push(Order { id, ..last });
+        }
+        _ if len > 0 => {
+            let (at, any) = (rng.place(len), rng.place(len));
+            let other = rng.pick(&[at.saturating_sub(1), any]);
+            spoil_order(rng, venue, at, other, odd);
+        }
+        _ => {}
+    }
+}
+
+fn spoil_order(rng: &mut Rng, venue: &mut Venue, at: usize, other: usize, odd: u32) {
+    let (id, stamp) = (venue.orders[other].id, venue.orders[other].stamp);
+    let order = &mut venue.orders[at];
+    match rng.up_to(12) {
+        0 => order.id = id,
+        1 => order.id = odd,
+        2 => order.mark = odd,
+        3 => order.limit = odd,
+        4 => order.shares = odd,
+        5 => order.show = odd,
+        6 => order.life = odd,
+        7 => order.slide = odd,
+        8..10 => order.stamp = stamp,
+        10 => order.stamp = odd,
+        11 => order.price = odd,
+        _ => order.entry_bid = rng.pick(&[odd, HIGHEST]),
+    }
+}

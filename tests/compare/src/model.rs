@@ -1,0 +1,47 @@
+//! A plain implementation of document 01, written from the paper and the
+//! readings alone. Comments in quotation marks are sentences of the paper,
+//! letters with numbers (A1, C7) are readings.
+
+mod book;
+mod form;
+mod prices;
+mod venue;
+
+pub use book::{copy_out, depth, Order, Side, BUY, OPT_OUT, PLACES, SHORT};
+pub use form::{
+    read_number, read_record, write_number, write_record, Entry, Event, Report, ReportWriter,
+    LONGEST_NUMBER,
+};
+pub use prices::{
+    is_legal, permitted_price, phase_after_day_end, phase_after_tape, watch_tape, Watch, DOLLAR,
+    HIGHEST, HIGHEST_BID, STEP,
+};
+pub use venue::{RecordCheck, Venue, LEAST_BUFFER, MOST_EVENTS, MOST_SHARES};
+
+/// The paper's refusals under their numbers.
+#[derive(Clone, Copy, Debug, PartialEq, Eq)]
+#[repr(u8)]
+pub enum Refusal {
+    ShortBuffer = 1,
+    Spent = 2,
+    Price = 3,
+    Shares = 4,
+    Code = 5,
+    Id = 6,
+    Full = 7,
+    NotResting = 8,
+    MissingByte = 9,
+    BadNumber = 10,
+    Kind = 11,
+    LargeField = 12,
+    NoRoom = 13,
+    ShortRun = 14,
+    LongRun = 15,
+    VenueRecord = 16,
+}
+
+impl Refusal {
+    pub fn number(self) -> u32 {
+        self as u32
+    }
+}

@@ -1,0 +1,338 @@
+//! "The seven-bit form": numbers, event records and reports.
+
+use super::Refusal;
+
+/// The longest number, 2^64 - 1, has ten groups of seven bits.
+pub const LONGEST_NUMBER: usize = 10;
+
+/// How many groups of seven bits a number has; 0 has one too.
+pub fn byte_count(number: u64) -> usize {
+    let bits = 64 - number.leading_zeros() as usize;
+    bits.div_ceil(7).max(1)
+}
+
+/// Reads the number at an offset and gives it with its end. "9 when a byte is
+/// missing (also at or past the end)"; "Bad: a tenth byte above 1; a last group
+/// 0 after another." The tenth byte is judged as soon as it is there (A3).
+pub fn read_number(bytes: &[u8], at: usize) -> Result<(u64, usize), Refusal> {
+    let mut number = 0;
+    let mut group = 0;
+    for &byte in bytes.get(at..).unwrap_or_default() {
+        if group == LONGEST_NUMBER - 1 && byte > 1 {
+            return Err(Refusal::BadNumber);
+        }
+        number |= u64::from(byte & 127) << (7 * group);
+        group += 1;
+        if byte < 128 {
+            return match (byte, group) {
+                (0, 2..) => Err(Refusal::BadNumber),
+                _ => Ok((number, at + group)),
+            };
+        }
+    }
+    Err(Refusal::MissingByte)
+}
+
+/// Writes a number at an offset, where it has to fit, and gives its end.
+#[inline]
+pub fn write_number(bytes: &mut [u8], at: usize, mut number: u64) -> usize {
+    let mut end = at;
+    while number > 127 {
+        bytes[end] = number as u8 | 128;
+        number >>= 7;
+        end += 1;
+    }
+    bytes[end] = number as u8;
+    end + 1
+}
+
+/// A number of a record other than its kind: "12 a field above 4,294,967,295",
+/// judged once the number is complete (A2).
+fn read_field(bytes: &[u8], at: usize) -> Result<(u32, usize), Refusal> {
+    let (number, end) = read_number(bytes, at)?;
+    let field = u32::try_from(number).map_err(|_| Refusal::LargeField)?;
+    Ok((field, end))
+}
+
+/// Reads so many fields, one after the other, "Judged left to right" (A4).
+fn read_fields<const N: usize>(bytes: &[u8], mut at: usize) -> Result<([u32; N], usize), Refusal> {
+    let mut fields = [0; N];
+    for field in &mut fields {
+        (*field, at) = read_field(bytes, at)?;
+    }
+    Ok((fields, at))
+}
+
+/// "Entry: id; mark; price, which is its limit; shares; show; life; slide"
+#[derive(Clone, Copy, Debug, PartialEq, Eq)]
+pub struct Entry {
+    pub id: u32,
+    pub mark: u32,
+    pub price: u32,
+    pub shares: u32,
+    pub show: u32,
+    pub life: u32,
+    pub slide: u32,
+}
+
+/// "kind 1 entry (fields as listed), 2 cancel (id), 3 bid, 4 tape, 5 day end
+/// (price)"
+#[derive(Clone, Copy, Debug, PartialEq, Eq)]
+pub enum Event {
+    Entry(Entry),
+    Cancel { id: u32 },
+    Bid { price: u32 },
+    Tape { price: u32 },
+    DayEnd { price: u32 },
+}
+
+/// The numbers of a record or a report: kind first, then the fields.
+#[derive(Clone, Copy)]
+pub struct Numbers {
+    list: [u32; 8],
+    len: usize,
+}
+
+impl Numbers {
+    #[inline]
+    fn new<const N: usize>(numbers: [u32; N]) -> Self {
+        let mut list = [0; 8];
+        list[..N].copy_from_slice(&numbers);
+        Numbers { list, len: N }
+    }
+
+    pub fn as_slice(&self) -> &[u32] {
+        &self.list[..self.len]
+    }
+
+    fn byte_count(&self) -> usize {
+        let counts = self.as_slice().iter().map(|&n| byte_count(n.into()));
+        counts.sum()
+    }
+
+    #[inline]
+    fn write(&self, bytes: &mut [u8], at: usize) -> usize {
+        let numbers = self.as_slice().iter();
+        numbers.fold(at, |end, &n| write_number(bytes, end, n.into()))
+    }
+}
+
+impl Event {
+    pub fn numbers(&self) -> Numbers {
+        match *self {
+            Event::Entry(e) => {
+                Numbers::new([1, e.id, e.mark, e.price, e.shares, e.show, e.life, e.slide])
+            }
+            Event::Cancel { id } => Numbers::new([2, id]),
+            Event::Bid { price } => Numbers::new([3, price]),
+            Event::Tape { price } => Numbers::new([4, price]),
+            Event::DayEnd { price } => Numbers::new([5, price]),
+        }
+    }
+}
+
+/// Reads the record at an offset and gives its event and its end (A11). The
+/// kind isn't a field, so one of 2^32 or more is 11 (A1).
+pub fn read_record(bytes: &[u8], at: usize) -> Result<(Event, usize), Refusal> {
+    let (kind, at) = read_number(bytes, at)?;
+    if kind == 1 {
+        let ([id, mark, price, shares, show, life, slide], end) = read_fields(bytes, at)?;
+        let entry = Entry {
+            id,
+            mark,
+            price,
+            shares,
+            show,
+            life,
+            slide,
+        };
+        return Ok((Event::Entry(entry), end));
+    }
+    let of_field = match kind {
+        2 => |id| Event::Cancel { id },
+        3 => |price| Event::Bid { price },
+        4 => |price| Event::Tape { price },
+        5 => |price| Event::DayEnd { price },
+        _ => return Err(Refusal::Kind),
+    };
+    let (field, end) = read_field(bytes, at)?;
+    Ok((of_field(field), end))
+}
+
+/// Writes a record at an offset and gives its end. "13 if it doesn't fit the
+/// lent buffer from there; bytes before and behind it keep their content."
+pub fn write_record(bytes: &mut [u8], at: usize, event: &Event) -> Result<usize, Refusal> {
+    let numbers = event.numbers();
+    let room = bytes.len().saturating_sub(at);
+    if numbers.byte_count() > room {
+        return Err(Refusal::NoRoom);
+    }
+    Ok(numbers.write(bytes, at))
+}
+
+/// "Reports, in the order of happening"
+#[derive(Clone, Copy, Debug, PartialEq, Eq)]
+pub enum Report {
+    Accepted {
+        id: u32,
+        stamp: u32,
+        price: u32,
+    },
+    Executed {
+        buyer: u32,
+        seller: u32,
+        price: u32,
+        shares: u32,
+    },
+    Cancelled {
+        id: u32,
+        shares: u32,
+        cause: u32,
+    },
+    Repriced {
+        id: u32,
+        price: u32,
+        stamp: u32,
+    },
+    RestrictionOn,
+    DayEnded {
+        phase: u32,
+    },
+}
+
+impl Report {
+    #[inline]
+    pub fn numbers(&self) -> Numbers {
+        match *self {
+            Report::Accepted { id, stamp, price } => Numbers::new([1, id, stamp, price]),
+            Report::Executed {
+                buyer,
+                seller,
+                price,
+                shares,
+            } => Numbers::new([2, buyer, seller, price, shares]),
+            Report::Cancelled { id, shares, cause } => Numbers::new([3, id, shares, cause]),
+            Report::Repriced { id, price, stamp } => Numbers::new([4, id, price, stamp]),
+            Report::RestrictionOn => Numbers::new([5]),
+            Report::DayEnded { phase } => Numbers::new([6, phase]),
+        }
+    }
+
+    /// Reads the report at an offset and gives it with its end.
+    pub fn read(bytes: &[u8], at: usize) -> Result<(Report, usize), Refusal> {
+        let (kind, at) = read_number(bytes, at)?;
+        match kind {
+            1 => read_fields(bytes, at).map(|([id, stamp, price], end)| {
+                let report = Report::Accepted { id, stamp, price };
+                (report, end)
+            }),
+            2 => read_fields(bytes, at).map(|([buyer, seller, price, shares], end)| {
+                let report = Report::Executed {
+                    buyer,
+                    seller,
+                    price,
+                    shares,
+                };
+                (report, end)
+            }),
+            3 => read_fields(bytes, at).map(|([id, shares, cause], end)| {
+                let report = Report::Cancelled { id, shares, cause };
+                (report, end)
+            }),
+            4 => read_fields(bytes, at).map(|([id, price, stamp], end)| {
+                let report = Report::Repriced { id, price, stamp };
+                (report, end)
+            }),
+            5 => Ok((Report::RestrictionOn, at)),
+            6 => read_fields(bytes, at).map(|([phase], end)| (Report::DayEnded { phase }, end)),
+            _ => Err(Refusal::Kind),
+        }
+    }
+
+    /// Reads reports to the end of the bytes.
+    pub fn read_all(bytes: &[u8]) -> Result<Vec<Report>, Refusal> {
+        let mut reports = Vec::new();
+        let mut at = 0;
+        while at < bytes.len() {
+            let (report, end) = Report::read(bytes, at)?;
+            reports.push(report);
+            at = end;
+        }
+        Ok(reports)
+    }
+}
+
+/// "They are written at the front of the lent report buffer in the seven-bit
+/// form, kind first; bytes behind them keep their content."
+pub struct ReportWriter<'a> {
+    buffer: &'a mut [u8],
+    end: usize,
+}
+
+impl<'a> ReportWriter<'a> {
+    pub fn new(buffer: &'a mut [u8]) -> Self {
+        ReportWriter { buffer, end: 0 }
+    }
+
+    #[inline]
+    pub fn put(&mut self, report: Report) {
+        self.end = report.numbers().write(self.buffer, self.end);
+    }
+
+    /// "The result has their byte count."
+    pub fn byte_count(&self) -> usize {
+        self.end
+    }
+}
+
+#[cfg(test)]
+mod tests {
+    use super::*;
+    use Refusal::*;
+
+    #[test]
+    fn byte_counts_are_the_papers() {
+        assert_eq!([0, 127, 128, 16_384].map(byte_count), [1, 1, 2, 3]);
+        assert_eq!(byte_count(u64::MAX), LONGEST_NUMBER);
+    }
+
+    #[test]
+    fn numbers_are_judged_as_in_section_a() {
+        let long = |tenth: &[u8]| [&[0xFF; 9], tenth].concat();
+        assert_eq!(read_number(&long(&[1]), 0), Ok((u64::MAX, 10)));
+        assert_eq!(read_number(&long(&[2]), 0), Err(BadNumber));
+        assert_eq!(read_number(&long(&[0x80]), 0), Err(BadNumber));
+        assert_eq!(read_number(&long(&[0]), 0), Err(BadNumber));
+        assert_eq!(read_number(&long(&[]), 0), Err(MissingByte));
+        assert_eq!(read_number(&[0x83, 0], 0), Err(BadNumber));
+        assert_eq!(read_number(&[], usize::MAX), Err(MissingByte));
+    }
+
+    #[test]
+    fn records_are_judged_left_to_right() {
+        let cases: [(&[u8], Refusal); 6] = [
+            (&[0x80, 0x80, 0x80, 0x80, 0x10], Kind),
+            (&[3, 0xFF, 0xFF, 0xFF, 0xFF, 0xFF], MissingByte),
+            (&[0], Kind),
+            (&[1, 0x80, 0x80, 0x80, 0x80, 0x10, 0x80, 0], LargeField),
+            (&[1, 1, 0x80, 0, 0x80, 0x80, 0x80, 0x80, 0x10], BadNumber),
+            (&[1, 1, 1], MissingByte),
+        ];
+        for (bytes, refusal) in cases {
+            assert_eq!(read_record(bytes, 0), Err(refusal));
+        }
+        let bid = [3, 0xDC, 0xC7, 5];
+        assert_eq!(read_record(&bid, 0), Ok((Event::Bid { price: 91_100 }, 4)));
+    }
+
+    #[test]
+    fn a_record_that_does_not_fit_leaves_the_buffer_alone() {
+        let bid = Event::Bid { price: 91_100 };
+        let mut bytes = [7; 6];
+        assert_eq!(write_record(&mut bytes, 3, &bid), Err(NoRoom));
+        assert_eq!(write_record(&mut bytes, usize::MAX, &bid), Err(NoRoom));
+        assert_eq!(bytes, [7; 6]);
+        assert_eq!(write_record(&mut bytes, 1, &bid), Ok(5));
+        assert_eq!(bytes, [7, 3, 0xDC, 0xC7, 5, 7]);
+    }
+}

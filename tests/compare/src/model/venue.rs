@@ -1,0 +1,398 @@
+//! The venue: open, the record check, the refusals in their order and the
+//! five kinds of event.
+
+use super::book::{
+    best_opposite, is_slide, Order, BUY, CONTINUOUS, DISPLAYED, HIGHEST_MARK, IMMEDIATE, ONCE,
+    OPT_OUT, PLACES, SHORT,
+};
+use super::form::{Entry, Event, Report, ReportWriter};
+use super::prices::{is_bid, is_legal, permitted, phase_after_day_end, phase_after_tape};
+use super::Refusal;
+
+/// "1 if the buffer has under 16,384 bytes"
+pub const LEAST_BUFFER: usize = 16_384;
+/// "2 if 16,777,215 events were accepted"
+pub const MOST_EVENTS: u32 = 16_777_215;
+/// "shares 1 to 1,000,000"
+pub const MOST_SHARES: u32 = 1_000_000;
+/// "last stamp at most 256 × accepted events"
+const STAMPS_AN_EVENT: u32 = 256;
+
+/// Causes of report 3: "1 asked for, others above".
+const ASKED_FOR: u32 = 1;
+const NOT_IMMEDIATE: u32 = 2;
+const OPTED_OUT: u32 = 3;
+const DAY_END: u32 = 4;
+
+/// Whether an event looks for refusal 16. Skipping is for the benchmark only,
+/// on venues that are known to be sound.
+#[derive(Clone, Copy, Debug, PartialEq, Eq)]
+pub enum RecordCheck {
+    Done,
+    Skipped,
+}
+
+/// The venue record; orders in rising id.
+#[derive(Clone, Debug, PartialEq, Eq)]
+pub struct Venue {
+    pub close: u32,
+    pub phase: u32,
+    pub bid: u32,
+    pub last_id: u32,
+    pub last_stamp: u32,
+    pub accepted: u32,
+    pub orders: Vec<Order>,
+}
+
+/// What the pass does to an order.
+enum Turn {
+    Stay,
+    Cancel,
+    PushUp { price: u32 },
+    SlideDown { price: u32, used: bool },
+}
+
+impl Venue {
+    /// "Open takes a close: 3 if it isn't legal; no venue is made. Fresh: phase
+    /// 0, bid 0, no orders, last id, last stamp and accepted events 0."
+    pub fn open(close: u32) -> Result<Venue, Refusal> {
+        if !is_legal(close) {
+            return Err(Refusal::Price);
+        }
+        Ok(Venue {
+            close,
+            phase: 0,
+            bid: 0,
+            last_id: 0,
+            last_stamp: 0,
+            accepted: 0,
+            orders: Vec::with_capacity(PLACES),
+        })
+    }
+
+    /// Whether the venue record keeps every condition of refusal 16.
+    pub fn is_sound(&self) -> bool {
+        self.orders.len() <= PLACES
+            && is_legal(self.close)
+            && self.phase <= 2
+            && is_bid(self.bid)
+            && self.accepted <= MOST_EVENTS
+            && self.last_stamp <= STAMPS_AN_EVENT * self.accepted
+            && self.ids_rise()
+            && self.orders.iter().all(Order::is_sound)
+            && self.stamps_differ()
+    }
+
+    /// "ids rising, from 1 to the last id"
+    fn ids_rise(&self) -> bool {
+        let mut below = 0;
+        for order in &self.orders {
+            if order.id <= below {
+                return false;
+            }
+            below = order.id;
+        }
+        below <= self.last_id
+    }
+
+    /// "stamps different, from 1 to the last stamp", with a hash set of 512
+    /// slots on the stack; 0, which is no stamp, marks a free slot. At most 256
+    /// of the slots are ever taken.
+    fn stamps_differ(&self) -> bool {
+        const SLOTS: usize = 2 * PLACES;
+        let mut seen = [0; SLOTS];
+        self.orders.iter().all(|order| {
+            let stamp = order.stamp;
+            let mut slot = stamp.wrapping_mul(0x9E37_79B1) as usize >> 23;
+            while seen[slot % SLOTS] != 0 && seen[slot % SLOTS] != stamp {
+                slot += 1;
+            }
+            let new = seen[slot % SLOTS] == 0;
+            seen[slot % SLOTS] = stamp;
+            new && (1..=self.last_stamp).contains(&stamp)
+        })
+    }
+
+    /// Applies an event: its refusal, which changes nothing, or the byte count
+    /// of its reports at the front of the buffer.
+    pub fn apply(
+        &mut self,
+        event: &Event,
+        buffer: &mut [u8],
+        check: RecordCheck,
+    ) -> Result<usize, Refusal> {
+        self.refuse_any(buffer.len(), check)?;
+        let mut reports = ReportWriter::new(buffer);
+        match *event {
+            Event::Entry(entry) => {
+                self.refuse_entry(&entry)?;
+                self.enter(&entry, &mut reports);
+            }
+            Event::Cancel { id } => {
+                let at = self.find(id).ok_or(Refusal::NotResting)?;
+                self.cancel(at, ASKED_FOR, &mut reports);
+            }
+            Event::Bid { price } => {
+                refuse_unless(is_bid(price), Refusal::Price)?;
+                self.bid = price;
+                self.pass(&mut reports);
+            }
+            Event::Tape { price } => {
+                refuse_unless(is_legal(price), Refusal::Price)?;
+                self.print(price, &mut reports);
+                self.pass(&mut reports);
+            }
+            Event::DayEnd { price } => {
+                refuse_unless(is_legal(price), Refusal::Price)?;
+                self.end_day(price, &mut reports);
+            }
+        }
+        self.accepted += 1;
+        Ok(reports.byte_count())
+    }
+
+    /// "Event (all kinds): 16 if the venue record breaks a condition", "Then 1
+    /// if the buffer has under 16,384 bytes; 2 if 16,777,215 events were
+    /// accepted."
+    fn refuse_any(&self, buffer: usize, check: RecordCheck) -> Result<(), Refusal> {
+        let sound = check == RecordCheck::Skipped || self.is_sound();
+        refuse_unless(sound, Refusal::VenueRecord)?;
+        refuse_unless(buffer >= LEAST_BUFFER, Refusal::ShortBuffer)?;
+        refuse_unless(self.accepted < MOST_EVENTS, Refusal::Spent)
+    }
+
+    /// "Entry then: 3 price not legal; 4 shares; 5 mark, show, life or slide; 6
+    /// id not above the last accepted id (0 never is); 7 if 256 orders rest."
+    fn refuse_entry(&self, entry: &Entry) -> Result<(), Refusal> {
+        let codes = entry.mark <= HIGHEST_MARK
+            && entry.show <= DISPLAYED
+            && entry.life <= IMMEDIATE
+            && is_slide(entry.slide, entry.mark);
+        let shares = (1..=MOST_SHARES).contains(&entry.shares);
+        refuse_unless(is_legal(entry.price), Refusal::Price)?;
+        refuse_unless(shares, Refusal::Shares)?;
+        refuse_unless(codes, Refusal::Code)?;
+        refuse_unless(entry.id > self.last_id, Refusal::Id)?;
+        refuse_unless(self.orders.len() < PLACES, Refusal::Full)
+    }
+
+    /// "An entry takes a stamp and works at its limit; a restricted one at the
+    /// larger of limit and permitted price, adjusted if that is above the
+    /// limit. It then matches."
+    fn enter(&mut self, entry: &Entry, reports: &mut ReportWriter) {
+        let mut price = entry.price;
+        if self.restricts(entry.mark) {
+            price = price.max(permitted(self.bid));
+        }
+        let mut order = Order {
+            id: entry.id,
+            mark: entry.mark,
+            limit: entry.price,
+            shares: entry.shares,
+            show: entry.show,
+            life: entry.life,
+            slide: entry.slide,
+            stamp: self.next_stamp(),
+            price,
+            entry_bid: self.bid,
+            adjusted: price > entry.price,
+            used: false,
+            clear: self.bid == 0 || self.bid < price,
+        };
+        self.last_id = order.id;
+        reports.put(Report::Accepted {
+            id: order.id,
+            stamp: order.stamp,
+            price,
+        });
+        self.trade(&mut order, reports);
+        if order.shares > 0 {
+            self.keep_remainder(order, reports);
+        }
+    }
+
+    /// "A remainder is cancelled if immediate or cancel (cause 2), else if
+    /// adjusted and opt-out (cause 3); otherwise it rests." Its id is the
+    /// highest, so its place is the last.
+    fn keep_remainder(&mut self, order: Order, reports: &mut ReportWriter) {
+        let cause = if order.life == IMMEDIATE {
+            NOT_IMMEDIATE
+        } else if order.adjusted && order.slide == OPT_OUT {
+            OPTED_OUT
+        } else {
+            self.orders.push(order);
+            return;
+        };
+        reports.put(cancelled(&order, cause));
+    }
+
+    /// ""Restricted" means mark 2 while the phase is 1 or 2."
+    fn restricts(&self, mark: u32) -> bool {
+        mark == SHORT && self.phase != 0
+    }
+
+    /// "A stamp is the next whole number, the first is 1."
+    fn next_stamp(&mut self) -> u32 {
+        self.last_stamp += 1;
+        self.last_stamp
+    }
+
+    fn find(&self, id: u32) -> Option<usize> {
+        self.orders.binary_search_by_key(&id, |order| order.id).ok()
+    }
+
+    fn cancel(&mut self, at: usize, cause: u32, reports: &mut ReportWriter) {
+        let order = self.orders.remove(at);
+        reports.put(cancelled(&order, cause));
+    }
+
+    /// "while shares remain, trade with the best opposite order that the
+    /// working price reaches (equal counts), for the smaller amount, at the
+    /// resting order's price"
+    fn trade(&mut self, working: &mut Order, reports: &mut ReportWriter) {
+        while working.shares > 0 {
+            let Some(at) = best_opposite(&self.orders, working) else {
+                return;
+            };
+            let resting = &mut self.orders[at];
+            let shares = working.shares.min(resting.shares);
+            working.shares -= shares;
+            resting.shares -= shares;
+            let (buyer, seller) = match working.mark {
+                BUY => (working.id, resting.id),
+                _ => (resting.id, working.id),
+            };
+            reports.put(Report::Executed {
+                buyer,
+                seller,
+                price: resting.price,
+                shares,
+            });
+            if resting.shares == 0 {
+                self.orders.remove(at);
+            }
+        }
+    }
+
+    /// The tape price's own work, before the pass: "5 restriction on, before
+    /// the pass" when it changes the phase (B3).
+    fn print(&mut self, price: u32, reports: &mut ReportWriter) {
+        let phase = phase_after_tape(self.phase, self.close, price);
+        if phase != self.phase {
+            self.phase = phase;
+            reports.put(Report::RestrictionOn);
+        }
+    }
+
+    /// "The pass runs after each accepted bid or tape event, over the orders
+    /// then resting, lowest id first. For a restricted one:" A walk over the
+    /// live book is the same, as no order joins it meanwhile (C6).
+    fn pass(&mut self, reports: &mut ReportWriter) {
+        let mut at = 0;
+        while let Some(order) = self.orders.get(at).copied() {
+            if !self.restricts(order.mark) {
+                at += 1;
+                continue;
+            }
+            match self.turn(&order) {
+                Turn::Stay => at += 1,
+                Turn::Cancel => self.cancel(at, OPTED_OUT, reports),
+                Turn::PushUp { price } => {
+                    let adjusted = Order {
+                        adjusted: true,
+                        ..order
+                    };
+                    at = self.reprice(adjusted, price, reports);
+                }
+                Turn::SlideDown { price, used } => {
+                    at = self.reprice(Order { used, ..order }, price, reports);
+                }
+            }
+        }
+    }
+
+    /// What the pass does to a restricted order:
+    /// - "If price ≤ bid, and it is not displayed or not clear: opt-out is
+    ///   cancelled (cause 3), any other is re-priced to the permitted price and
+    ///   becomes adjusted."
+    /// - "Otherwise, if adjusted: continuous takes t = larger of limit and
+    ///   permitted price, and moves if t < price. Once, if not used, takes t =
+    ///   larger of limit and entry bid, moves if bid < t < price, and is then
+    ///   used."
+    fn turn(&self, order: &Order) -> Turn {
+        let permitted = permitted(self.bid);
+        if order.price <= self.bid && (order.show != DISPLAYED || !order.clear) {
+            return match order.slide {
+                OPT_OUT => Turn::Cancel,
+                _ => Turn::PushUp { price: permitted },
+            };
+        }
+        let (price, moves, used) = match order.slide {
+            CONTINUOUS => (order.limit.max(permitted), true, order.used),
+            ONCE => {
+                let price = order.limit.max(order.entry_bid);
+                (price, !order.used && self.bid < price, true)
+            }
+            _ => return Turn::Stay,
+        };
+        if order.adjusted && moves && price < order.price {
+            Turn::SlideDown { price, used }
+        } else {
+            Turn::Stay
+        }
+    }
+
+    /// "A re-priced order gets a new stamp, is clear, and matches as if it came
+    /// in." Its old record stays in its place while it works, where only buys
+    /// are looked for and it is none. Gives where the next id lies.
+    fn reprice(&mut self, order: Order, price: u32, reports: &mut ReportWriter) -> usize {
+        let mut working = Order {
+            price,
+            stamp: self.next_stamp(),
+            clear: true,
+            ..order
+        };
+        reports.put(Report::Repriced {
+            id: working.id,
+            price,
+            stamp: working.stamp,
+        });
+        self.trade(&mut working, reports);
+        let at = self.orders.partition_point(|other| other.id < working.id);
+        if working.shares == 0 {
+            self.orders.remove(at);
+            at
+        } else {
+            self.orders[at] = working;
+            at + 1
+        }
+    }
+
+    /// "A day end sets the close, sets bid 0 and cancels every order, lowest id
+    /// first (cause 4)." "6 day ended, last: new phase."
+    fn end_day(&mut self, close: u32, reports: &mut ReportWriter) {
+        self.close = close;
+        self.bid = 0;
+        self.phase = phase_after_day_end(self.phase);
+        for order in self.orders.drain(..) {
+            reports.put(cancelled(&order, DAY_END));
+        }
+        reports.put(Report::DayEnded { phase: self.phase });
+    }
+}
+
+fn refuse_unless(condition: bool, refusal: Refusal) -> Result<(), Refusal> {
+    if condition {
+        Ok(())
+    } else {
+        Err(refusal)
+    }
+}
+
+fn cancelled(order: &Order, cause: u32) -> Report {
+    Report::Cancelled {
+        id: order.id,
+        shares: order.shares,
+        cause,
+    }
+}

@@ -1,0 +1,538 @@
+//! Generated streams: sound trading around the bid, nonsense, damaged bytes,
+//! and events on made-up venue records. Each follows from its seed.
+
+use crate::made_up::{made_up, sink_shorts, spoil_record};
+use crate::model::{
+    read_record, write_number, write_record, Entry, Event, RecordCheck, Venue, DOLLAR, HIGHEST,
+    HIGHEST_BID, LEAST_BUFFER, LONGEST_NUMBER, MOST_EVENTS, MOST_SHARES, SHORT, STEP,
+};
+use crate::rng::Rng;
+
+/// Legal prices counted from 1 up; rung 0 is no bid.
+const RUNGS: u32 = DOLLAR + (HIGHEST - DOLLAR) / STEP;
+
+pub fn price_of(rung: u32) -> u32 {
+    if rung < DOLLAR {
+        rung
+    } else {
+        DOLLAR + (rung - DOLLAR) * STEP
+    }
+}
+
+/// The rung of the highest legal price that isn't above this one.
+fn rung_of(price: u32) -> u32 {
+    if price < DOLLAR {
+        price
+    } else {
+        DOLLAR + (price - DOLLAR) / STEP
+    }
+}
+
+/// A legal price at most so many rungs away.
+pub fn near(rng: &mut Rng, rung: u32, reach: u32) -> u32 {
+    let least = rung.saturating_sub(reach);
+    let drawn = rng.between(least, rung + reach);
+    price_of(drawn.clamp(1, RUNGS))
+}
+
+/// A bid at most so many rungs away.
+fn bid_near(rng: &mut Rng, rung: u32, reach: u32) -> u32 {
+    near(rng, rung, reach).min(HIGHEST_BID)
+}
+
+/// Where a session trades, how far from there, and how often in a hundred
+/// events something other than an entry comes.
+pub struct Market {
+    pub centre: u32,
+    pub reach: u32,
+    pub marks: &'static [u32],
+    cancels: u32,
+    bids: u32,
+    tapes: u32,
+    quiet_days: u32,
+}
+
+/// How often each mark comes: mixed, mostly shorts, hardly any short.
+const MIXED: &[u32] = &[0, 0, 0, 0, 0, 1, 2, 2, 2, 2, 3];
+const SHORTS: &[u32] = &[0, 2, 2, 2, 2, 2, 2, 2];
+const OTHERS: &[u32] = &[0, 0, 0, 1, 1, 2, 3];
+
+impl Market {
+    fn random(rng: &mut Rng) -> Self {
+        let anywhere = rng.between(1, RUNGS);
+        let centres = [910, 10_810, DOLLAR, DOLLAR + 1, 12, RUNGS - 4, anywhere];
+        Market {
+            centre: rng.pick(&centres),
+            reach: rng.pick(&[2, 5, 5, 20, 300]),
+            cancels: rng.pick(&[1, 8, 20]),
+            bids: rng.pick(&[4, 15, 30]),
+            tapes: rng.pick(&[2, 6]),
+            quiet_days: rng.pick(&[60, 400, 2_000]),
+            marks: rng.pick(&[MIXED, MIXED, MIXED, SHORTS, OTHERS]),
+        }
+    }
+
+    pub fn close(&self, rng: &mut Rng) -> u32 {
+        near(rng, self.centre, 2 * self.reach)
+    }
+
+    /// An event that makes sense for the venue as it stands.
+    fn event(&self, rng: &mut Rng, venue: &Venue) -> Event {
+        if rng.one_in(self.quiet_days) {
+            return Event::DayEnd {
+                price: self.close(rng),
+            };
+        }
+        let drawn = rng.up_to(99);
+        if drawn < self.cancels && !venue.orders.is_empty() {
+            let id = venue.orders[rng.place(venue.orders.len())].id;
+            Event::Cancel { id }
+        } else if drawn < self.cancels + self.bids {
+            let price = self.bid(rng, venue.bid);
+            Event::Bid { price }
+        } else if drawn < self.cancels + self.bids + self.tapes {
+            let price = self.tape(rng, venue);
+            Event::Tape { price }
+        } else {
+            Event::Entry(self.entry(rng, venue))
+        }
+    }
+
+    /// The bid walks, at times back to the centre and at times away.
+    pub fn bid(&self, rng: &mut Rng, present: u32) -> u32 {
+        match rng.up_to(19) {
+            0 => 0,
+            1..6 => bid_near(rng, self.centre, self.reach),
+            _ if present == 0 => bid_near(rng, self.centre, 2),
+            _ => bid_near(rng, rung_of(present), 3),
+        }
+    }
+
+    /// A tape price around the trigger, or around the centre.
+    fn tape(&self, rng: &mut Rng, venue: &Venue) -> u32 {
+        if rng.one_in(3) {
+            let trigger = u64::from(venue.close) * 9 / 10;
+            near(rng, rung_of(trigger as u32), 1)
+        } else {
+            near(rng, self.centre, self.reach)
+        }
+    }
+
+    fn entry(&self, rng: &mut Rng, venue: &Venue) -> Entry {
+        let around = match venue.bid {
+            0 => self.centre,
+            bid => rung_of(bid),
+        };
+        let mark = rng.pick(self.marks);
+        let few = rng.between(1, 9);
+        let many = rng.between(1, 2_000);
+        let gap = rng.pick(&[1, 1, 1, 1, 2, 70_000]);
+        Entry {
+            id: venue.last_id.saturating_add(gap),
+            mark,
+            price: near(rng, around, self.reach),
+            shares: rng.pick(&[few, few, many, MOST_SHARES]),
+            show: rng.pick(&[0, 1, 1]),
+            life: rng.pick(&[0, 0, 0, 0, 0, 1]),
+            slide: match mark {
+                SHORT => rng.pick(&[0, 0, 1, 1, 2, 3]),
+                _ => 0,
+            },
+        }
+    }
+}
+
+/// A number at or over some border, or any.
+pub fn odd_number(rng: &mut Rng) -> u32 {
+    let any = rng.word();
+    let borders = [
+        0,
+        1,
+        2,
+        3,
+        4,
+        5,
+        255,
+        256,
+        257,
+        DOLLAR - 1,
+        DOLLAR,
+        DOLLAR + 1,
+        DOLLAR + STEP - 1,
+        MOST_SHARES,
+        MOST_SHARES + 1,
+        MOST_EVENTS,
+        MOST_EVENTS + 1,
+        HIGHEST_BID,
+        HIGHEST_BID + 1,
+        HIGHEST,
+        HIGHEST + 1,
+        HIGHEST + STEP,
+        u32::MAX - 1,
+        u32::MAX,
+        any,
+        any % HIGHEST,
+        any % DOLLAR,
+    ];
+    rng.pick(&borders)
+}
+
+/// A sound event with one field changed to something odd, or all fields odd.
+fn nonsense(rng: &mut Rng, sound: Event, venue: &Venue) -> Event {
+    let odd = odd_number(rng);
+    match (sound, rng.up_to(5)) {
+        (_, 0) => Event::Cancel { id: odd },
+        (_, 1) => rng.pick(&[
+            Event::Bid { price: odd },
+            Event::Tape { price: odd },
+            Event::DayEnd { price: odd },
+        ]),
+        (Event::Entry(_), 2) => Event::Entry(Entry {
+            id: odd_number(rng),
+            mark: odd_number(rng),
+            price: odd_number(rng),
+            shares: odd_number(rng),
+            show: odd_number(rng),
+            life: odd_number(rng),
+            slide: odd,
+        }),
+        (Event::Entry(entry), _) => Event::Entry(spoil_entry(rng, entry, odd, venue)),
+        (sound, _) => sound,
+    }
+}
+
+fn spoil_entry(rng: &mut Rng, mut entry: Entry, odd: u32, venue: &Venue) -> Entry {
+    let repeated = rng.up_to(venue.last_id);
+    match rng.up_to(8) {
+        0 => entry.id = rng.pick(&[0, venue.last_id, odd]),
+        1 => entry.id = repeated,
+        2 => entry.mark = odd,
+        3 => entry.price = odd,
+        4 => entry.shares = odd,
+        5 => entry.show = odd,
+        6 => entry.life = odd,
+        7 => entry.slide = odd,
+        _ => {
+            entry.mark ^= 1;
+            entry.slide = rng.up_to(4);
+        }
+    }
+    entry
+}
+
+/// Damages bytes in one place: cut, changed, lost, put in, made overlong.
+fn damage(rng: &mut Rng, bytes: &mut Vec<u8>) {
+    if bytes.is_empty() {
+        return;
+    }
+    let at = rng.place(bytes.len());
+    match rng.up_to(15) {
+        0 => bytes.truncate(at),
+        1..4 => bytes[at] ^= 1 << rng.up_to(7),
+        4..7 => bytes[at] = rng.word() as u8,
+        7..9 => drop(bytes.remove(at)),
+        9..11 => bytes.insert(at, rng.word() as u8),
+        11..14 => {
+            let end = at + bytes[at..].iter().take_while(|&&byte| byte > 127).count();
+            if let Some(last) = bytes.get_mut(end) {
+                *last |= 128;
+                bytes.insert(end + 1, 0);
+            }
+        }
+        _ => {
+            let number = large_number(rng);
+            bytes.splice(at..at, number);
+        }
+    }
+}
+
+/// Ends the bytes with a record that breaks off inside a large number.
+fn break_off(rng: &mut Rng, bytes: &mut Vec<u8>) {
+    let mut number = large_number(rng);
+    number.truncate(rng.place(number.len()));
+    bytes.push(rng.between(1, 5) as u8);
+    bytes.append(&mut number);
+}
+
+/// A number of many bytes, sound or not.
+fn large_number(rng: &mut Rng) -> Vec<u8> {
+    if rng.one_in(2) {
+        let mut bytes = vec![0xFF; LONGEST_NUMBER - 1];
+        bytes.push(rng.pick(&[0, 1, 1, 2, 0x80, 0xFF]));
+        return bytes;
+    }
+    let sizes = [1 << 32, (1 << 32) - 1, (1 << 32) + 1, 1 << 35, u64::MAX];
+    let mut bytes = vec![0; LONGEST_NUMBER];
+    let end = write_number(&mut bytes, 0, rng.pick(&sizes));
+    bytes.truncate(end);
+    bytes
+}
+
+/// A fresh venue without looking at the close.
+fn fresh(close: u32) -> Venue {
+    Venue {
+        close,
+        phase: 0,
+        bid: 0,
+        last_id: 0,
+        last_stamp: 0,
+        accepted: 0,
+        orders: Vec::new(),
+    }
+}
+
+#[derive(Clone, Copy, Debug, PartialEq, Eq)]
+pub enum Kind {
+    /// Events that make sense.
+    Sound,
+    /// Such events, half of them changed into odd ones.
+    Nonsense,
+    /// The bytes of such events, damaged.
+    Damaged,
+    /// Events on a sound venue record that open need not reach.
+    MadeUp,
+    /// Events on such a record with one thing changed, mostly for the worse.
+    Spoilt,
+}
+
+impl Kind {
+    pub const COUNT: usize = 5;
+
+    pub fn is_from_open(self) -> bool {
+        !matches!(self, Kind::MadeUp | Kind::Spoilt)
+    }
+}
+
+/// One event to apply: the bytes to read a record from (a damaged stream gives
+/// all its rest) and the length of the report buffer to lend.
+pub struct Step<'a> {
+    pub record: &'a [u8],
+    pub buffer: usize,
+}
+
+/// A run of events on one venue.
+pub struct Session {
+    pub kind: Kind,
+    pub start: Venue,
+    rng: Rng,
+    market: Market,
+    left: u32,
+    bytes: Vec<u8>,
+    at: usize,
+}
+
+/// The longest buffer that a step lends, longer than any event may need.
+pub const MOST_BUFFER: usize = LEAST_BUFFER + 4_096;
+
+impl Session {
+    pub fn new(seed: u64) -> Self {
+        let mut rng = Rng::new(seed);
+        let market = Market::random(&mut rng);
+        let kind = match rng.up_to(99) {
+            0..10 => Kind::Sound,
+            10..18 => Kind::Nonsense,
+            18..33 => Kind::Damaged,
+            33..70 => Kind::MadeUp,
+            _ => Kind::Spoilt,
+        };
+        let long = rng.pick(&[50, 400, 1_500]);
+        let (start, left, bytes) = match kind {
+            Kind::Sound => (fresh(market.close(&mut rng)), long, Vec::new()),
+            Kind::Nonsense => (fresh(market.close(&mut rng)), long / 2, Vec::new()),
+            Kind::Damaged => {
+                let venue = fresh(market.close(&mut rng));
+                let bytes = damaged_stream(&mut rng, &market, venue.clone());
+                (venue, u32::MAX, bytes)
+            }
+            Kind::MadeUp => {
+                let mut venue = made_up(&mut rng, &market);
+                if rng.one_in(6) {
+                    sink_shorts(&mut venue, &market);
+                }
+                (venue, rng.between(1, 60), Vec::new())
+            }
+            Kind::Spoilt => {
+                let mut venue = made_up(&mut rng, &market);
+                spoil_record(&mut rng, &mut venue);
+                (venue, rng.between(1, 4), Vec::new())
+            }
+        };
+        Session {
+            kind,
+            start,
+            rng,
+            market,
+            left,
+            bytes,
+            at: 0,
+        }
+    }
+
+    /// The next step for the venue as it stands.
+    pub fn next(&mut self, venue: &Venue) -> Option<Step<'_>> {
+        if self.left == 0 || (self.kind == Kind::Damaged && self.at >= self.bytes.len()) {
+            return None;
+        }
+        self.left -= 1;
+        let buffer = buffer_len(&mut self.rng);
+        if self.kind == Kind::Damaged {
+            let at = self.at;
+            self.at = read_record(&self.bytes, at).map_or(at + 1, |(_, end)| end);
+            let record = &self.bytes[at..];
+            return Some(Step { record, buffer });
+        }
+        let event = self.event(venue);
+        self.bytes.clear();
+        push_record(&mut self.bytes, &event);
+        Some(Step {
+            record: &self.bytes,
+            buffer,
+        })
+    }
+
+    fn event(&mut self, venue: &Venue) -> Event {
+        let sound = self.market.event(&mut self.rng, venue);
+        let nonsense_one_in = match self.kind {
+            Kind::Nonsense => 2,
+            Kind::MadeUp | Kind::Spoilt => 6,
+            Kind::Sound | Kind::Damaged => return sound,
+        };
+        if self.rng.one_in(nonsense_one_in) {
+            nonsense(&mut self.rng, sound, venue)
+        } else {
+            sound
+        }
+    }
+}
+
+/// Mostly enough, at times exactly so, at times short.
+fn buffer_len(rng: &mut Rng) -> usize {
+    match rng.up_to(99) {
+        0 => rng.pick(&[0, 1, LEAST_BUFFER / 2, LEAST_BUFFER - 1]),
+        1..50 => LEAST_BUFFER,
+        _ => rng.between(LEAST_BUFFER as u32, MOST_BUFFER as u32) as usize,
+    }
+}
+
+/// The longest record, of an entry, has a kind and seven fields of at most five
+/// bytes.
+const LONGEST_RECORD: usize = 36;
+
+pub fn push_record(bytes: &mut Vec<u8>, event: &Event) {
+    let at = bytes.len();
+    bytes.resize(at + LONGEST_RECORD, 0);
+    let end = write_record(bytes, at, event).expect("room for the longest record");
+    bytes.truncate(end);
+}
+
+/// The records of some sound events, then damaged in some places.
+fn damaged_stream(rng: &mut Rng, market: &Market, mut venue: Venue) -> Vec<u8> {
+    let mut bytes = Vec::new();
+    let mut buffer = vec![0; LEAST_BUFFER];
+    for _ in 0..rng.between(5, 250) {
+        let event = market.event(rng, &venue);
+        push_record(&mut bytes, &event);
+        // A refused event belongs to the stream too.
+        let _ = venue.apply(&event, &mut buffer, RecordCheck::Skipped);
+    }
+    for _ in 0..rng.between(1, 24) {
+        damage(rng, &mut bytes);
+    }
+    if rng.one_in(2) {
+        break_off(rng, &mut bytes);
+    }
+    bytes
+}
+
+/// The records of a benchmark, and the venue to play them from.
+pub struct Trace {
+    pub start: Venue,
+    pub mean_resting: f64,
+    bytes: Vec<u8>,
+    ends: Vec<usize>,
+}
+
+impl Trace {
+    pub fn records(&self) -> impl Iterator<Item = &[u8]> {
+        let starts = [0].into_iter().chain(self.ends.iter().copied());
+        let ends = self.ends.iter();
+        starts.zip(ends).map(|(at, &end)| &self.bytes[at..end])
+    }
+}
+
+/// A sound stream that keeps about so many orders resting, with the restriction
+/// on, and holds so many events.
+pub fn trace(seed: u64, resting: usize, events: usize) -> Trace {
+    let mut rng = Rng::new(seed);
+    let market = Market {
+        centre: rung_of(91_000),
+        reach: 12,
+        cancels: 0,
+        bids: 10,
+        tapes: 3,
+        quiet_days: u32::MAX,
+        marks: MIXED,
+    };
+    let mut venue = fresh(100_000);
+    let mut buffer = vec![0; LEAST_BUFFER];
+    let mut play = |venue: &mut Venue, event: &Event| {
+        let answer = venue.apply(event, &mut buffer, RecordCheck::Skipped);
+        answer.is_ok()
+    };
+    let opening = [Event::Bid { price: 91_000 }, Event::Tape { price: 90_000 }];
+    for event in &opening {
+        play(&mut venue, event);
+    }
+    while venue.orders.len() < resting {
+        let entry = quiet_entry(&mut rng, &market, &venue);
+        play(&mut venue, &Event::Entry(entry));
+    }
+    let start = venue.clone();
+    let (mut bytes, mut ends) = (Vec::new(), Vec::new());
+    let mut sum_resting = 0;
+    while ends.len() < events {
+        let event = trace_event(&mut rng, &market, &venue, resting);
+        if play(&mut venue, &event) {
+            push_record(&mut bytes, &event);
+            ends.push(bytes.len());
+            sum_resting += venue.orders.len();
+        }
+    }
+    Trace {
+        start,
+        mean_resting: sum_resting as f64 / events as f64,
+        bytes,
+        ends,
+    }
+}
+
+/// Tops the book up or thins it, and in between anything.
+fn trace_event(rng: &mut Rng, market: &Market, venue: &Venue, resting: usize) -> Event {
+    let len = venue.orders.len();
+    if rng.one_in(2) {
+        return market.event(rng, venue);
+    }
+    if len < resting {
+        Event::Entry(quiet_entry(rng, market, venue))
+    } else {
+        let id = venue.orders[rng.place(len)].id;
+        Event::Cancel { id }
+    }
+}
+
+/// An entry of few shares that rests: a buy below the centre, a sell above.
+fn quiet_entry(rng: &mut Rng, market: &Market, venue: &Venue) -> Entry {
+    let entry = market.entry(rng, venue);
+    let away = rng.between(1, 3 * market.reach);
+    let rung = match entry.mark {
+        0 => market.centre - away,
+        _ => market.centre + away,
+    };
+    Entry {
+        id: venue.last_id + 1,
+        price: price_of(rung),
+        shares: rng.between(1, 9) * 100,
+        life: 0,
+        ..entry
+    }
+}
