@@ -6,7 +6,7 @@ ghost use Rattle.numbers.specs.SevenBit.{Put};
 ghost use Rattle.engine.specs.Reports.{accepted, executed, cancelled, repriced, restrictionStarts, dayEnded};
 ghost use Rattle.engine.specs.Records.{reportBytes};
 
-pub fn write_accepted(bytes: &mut [u8], at: usize, id: u32, stamp: u32, price: u32) -> usize
+pub(crate) fn write_accepted(bytes: &mut [u8], at: usize, id: u32, stamp: u32, price: u32) -> usize
     requires { ⌜ at + length (reportBytes (accepted id stamp price)) ≤ length (now bytes) ⌝ }
     ensures { λ r. ⌜ Put (reportBytes (accepted id stamp price)) at (now (bytes .entry)) r (now (bytes .exit)) ⌝ }
 {
@@ -14,7 +14,7 @@ pub fn write_accepted(bytes: &mut [u8], at: usize, id: u32, stamp: u32, price: u
     write::put_numbers(bytes, at, &numbers)
 }
 
-pub fn write_executed(
+pub(crate) fn write_executed(
     bytes: &mut [u8],
     at: usize,
     buyer: u32,
@@ -29,7 +29,13 @@ pub fn write_executed(
     write::put_numbers(bytes, at, &numbers)
 }
 
-pub fn write_cancelled(bytes: &mut [u8], at: usize, id: u32, shares: u32, cause: u32) -> usize
+pub(crate) fn write_cancelled(
+    bytes: &mut [u8],
+    at: usize,
+    id: u32,
+    shares: u32,
+    cause: u32,
+) -> usize
     requires { ⌜ at + length (reportBytes (cancelled id shares cause)) ≤ length (now bytes) ⌝ }
     ensures { λ r. ⌜ Put (reportBytes (cancelled id shares cause)) at (now (bytes .entry)) r (now (bytes .exit)) ⌝ }
 {
@@ -37,7 +43,7 @@ pub fn write_cancelled(bytes: &mut [u8], at: usize, id: u32, shares: u32, cause:
     write::put_numbers(bytes, at, &numbers)
 }
 
-pub fn write_repriced(bytes: &mut [u8], at: usize, id: u32, price: u32, stamp: u32) -> usize
+pub(crate) fn write_repriced(bytes: &mut [u8], at: usize, id: u32, price: u32, stamp: u32) -> usize
     requires { ⌜ at + length (reportBytes (repriced id price stamp)) ≤ length (now bytes) ⌝ }
     ensures { λ r. ⌜ Put (reportBytes (repriced id price stamp)) at (now (bytes .entry)) r (now (bytes .exit)) ⌝ }
 {
@@ -45,7 +51,7 @@ pub fn write_repriced(bytes: &mut [u8], at: usize, id: u32, price: u32, stamp: u
     write::put_numbers(bytes, at, &numbers)
 }
 
-pub fn write_restriction_starts(bytes: &mut [u8], at: usize) -> usize
+pub(crate) fn write_restriction_starts(bytes: &mut [u8], at: usize) -> usize
     requires { ⌜ at + length (reportBytes restrictionStarts) ≤ length (now bytes) ⌝ }
     ensures { λ r. ⌜ Put (reportBytes restrictionStarts) at (now (bytes .entry)) r (now (bytes .exit)) ⌝ }
 {
@@ -53,7 +59,7 @@ pub fn write_restriction_starts(bytes: &mut [u8], at: usize) -> usize
     write::put_numbers(bytes, at, &numbers)
 }
 
-pub fn write_day_ended(bytes: &mut [u8], at: usize, phase: u32) -> usize
+pub(crate) fn write_day_ended(bytes: &mut [u8], at: usize, phase: u32) -> usize
     requires { ⌜ at + length (reportBytes (dayEnded phase)) ≤ length (now bytes) ⌝ }
     ensures { λ r. ⌜ Put (reportBytes (dayEnded phase)) at (now (bytes .entry)) r (now (bytes .exit)) ⌝ }
 {
