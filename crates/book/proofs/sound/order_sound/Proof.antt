@@ -1,7 +1,6 @@
 -- `order_sound` by its groups of tests. Assumes nothing.
 use Prim.Native.Nat.{ℕ, _≤_, _<_}
 use mathlib.Core.Path.{_≡_, sym, ap, _∙_, subst}
-use mathlib.Core.Bool.{true, false}
 use borrow.Author.Tests.{le-leb, lt-leb}
 use Rattle.book.specs.Sound.{mostShares}
 use Rattle.book.specs.Words.{word, orderAt}
@@ -11,6 +10,13 @@ use Rattle.book.proofs.SoundOrderLaws.{sound-groups}
 use borrow.Author.Needs.{needs}
 use Rattle.book.proofs.sound.order_sound.Statement.{statement}
 use Rattle.book.proofs.sound.order_sound.Tie as tie
+
+-- equal codes are sound alike, and so are equal prices
+same-codes : {a b c d a′ b′ c′ d′ : ℕ} → a ≡ a′ → b ≡ b′ → c ≡ c′ → d ≡ d′ → codesSound a b c d ≡ codesSound a′ b′ c′ d′
+same-codes h₁ h₂ h₃ h₄ = cc (h₁, h₂, h₃, h₄)
+
+same-prices : {a b c a′ b′ c′ : ℕ} → a ≡ a′ → b ≡ b′ → c ≡ c′ → pricesSound a b c ≡ pricesSound a′ b′ c′
+same-prices h₁ h₂ h₃ = cc (h₁, h₂, h₃)
 
 word-at-requires : tie.Need-word-at-requires
 word-at-requires c κs = search needs
@@ -58,10 +64,10 @@ prices-sound-requires : tie.Need-prices-sound-requires
 prices-sound-requires c κs = search needs
 
 returns-2 : tie.Need-returns-2
-returns-2 c = let s = c .before .before .before .before .before .before .before .before .before .before .before .before .before .before .before .before .before .before .before in let w = s .args .w .now in let i = s .args .i in sym (sound-groups (s .args .last-id) (s .args .last-stamp) (orderAt w i) ∙ and-yes _ (le-leb (word w i 0) (s .args .last-id) (subst (λ (x : ℕ). x ≤ s .args .last-id) (c .before .before .before .before .before .before .before .before .before .before .before .before .before .before .before .before .before .word-at .ensures) (c .before .before .before .before .before .before .before .before .before .before .before .before .before .before .before .before .if1 .left))) ∙ and-yes _ (ap (λ (x : ℕ). fromOne x mostShares) (sym (c .before .before .before .before .before .before .before .before .before .before .before .before .before .before .before .word-at2 .ensures)) ∙ sym (c .before .before .before .before .before .before .before .before .before .before .before .before .before .before .from-one .ensures) ∙ c .before .before .before .before .before .before .before .before .before .before .before .before .before .if2 .taken) ∙ and-yes _ (ap (λ (x : ℕ). fromOne x (s .args .last-stamp)) (sym (c .before .before .before .before .before .before .before .before .before .before .before .before .word-at3 .ensures)) ∙ sym (c .before .before .before .before .before .before .before .before .before .before .before .from-one2 .ensures) ∙ c .before .before .before .before .before .before .before .before .before .before .if3 .taken) ∙ and-yes _ (let k : codesSound (word w i 1) (word w i 4) (word w i 5) (word w i 6) ≡ true = cc (c .before .before .before .before .before .before .before .before .before .word-at4 .ensures, c .before .before .before .before .before .before .before .before .word-at5 .ensures, c .before .before .before .before .before .before .before .word-at6 .ensures, c .before .before .before .before .before .before .word-at7 .ensures, c .before .before .before .before .before .codes-sound .ensures, c .before .before .before .before .if4 .taken) in k) ∙ (let k : pricesSound (word w i 2) (word w i 8) (word w i 9) ≡ c .prices-sound .result = cc (c .before .before .before .word-at8 .ensures, c .before .before .word-at9 .ensures, c .before .word-at10 .ensures, c .prices-sound .ensures) in k))
+returns-2 c = let s = c .before .before .before .before .before .before .before .before .before .before .before .before .before .before .before .before .before .before .before in let w = s .args .w .now in let i = s .args .i in sym (sound-groups (s .args .last-id) (s .args .last-stamp) (orderAt w i) ∙ and-yes _ (le-leb (word w i 0) (s .args .last-id) (subst (λ (x : ℕ). x ≤ s .args .last-id) (c .before .before .before .before .before .before .before .before .before .before .before .before .before .before .before .before .before .word-at .ensures) (c .before .before .before .before .before .before .before .before .before .before .before .before .before .before .before .before .if1 .left))) ∙ and-yes _ (ap (λ (x : ℕ). fromOne x mostShares) (sym (c .before .before .before .before .before .before .before .before .before .before .before .before .before .before .before .word-at2 .ensures)) ∙ sym (c .before .before .before .before .before .before .before .before .before .before .before .before .before .before .from-one .ensures) ∙ c .before .before .before .before .before .before .before .before .before .before .before .before .before .if2 .taken) ∙ and-yes _ (ap (λ (x : ℕ). fromOne x (s .args .last-stamp)) (sym (c .before .before .before .before .before .before .before .before .before .before .before .before .word-at3 .ensures)) ∙ sym (c .before .before .before .before .before .before .before .before .before .before .before .from-one2 .ensures) ∙ c .before .before .before .before .before .before .before .before .before .before .if3 .taken) ∙ and-yes _ (sym (same-codes (c .before .before .before .before .before .before .before .before .before .word-at4 .ensures) (c .before .before .before .before .before .before .before .before .word-at5 .ensures) (c .before .before .before .before .before .before .before .word-at6 .ensures) (c .before .before .before .before .before .before .word-at7 .ensures)) ∙ sym (c .before .before .before .before .before .codes-sound .ensures) ∙ c .before .before .before .before .if4 .taken) ∙ (sym (same-prices (c .before .before .before .word-at8 .ensures) (c .before .before .word-at9 .ensures) (c .before .word-at10 .ensures)) ∙ sym (c .prices-sound .ensures)))
 
 returns-3 : tie.Need-returns-3
-returns-3 c = let s = c .before .before .before .before .before .before .before .before .before .before .before .before .before .before .before in let w = s .args .w .now in let i = s .args .i in sym (sound-groups (s .args .last-id) (s .args .last-stamp) (orderAt w i) ∙ and-yes _ (le-leb (word w i 0) (s .args .last-id) (subst (λ (x : ℕ). x ≤ s .args .last-id) (c .before .before .before .before .before .before .before .before .before .before .before .before .before .word-at .ensures) (c .before .before .before .before .before .before .before .before .before .before .before .before .if1 .left))) ∙ and-yes _ (ap (λ (x : ℕ). fromOne x mostShares) (sym (c .before .before .before .before .before .before .before .before .before .before .before .word-at2 .ensures)) ∙ sym (c .before .before .before .before .before .before .before .before .before .before .from-one .ensures) ∙ c .before .before .before .before .before .before .before .before .before .if2 .taken) ∙ and-yes _ (ap (λ (x : ℕ). fromOne x (s .args .last-stamp)) (sym (c .before .before .before .before .before .before .before .before .word-at3 .ensures)) ∙ sym (c .before .before .before .before .before .before .before .from-one2 .ensures) ∙ c .before .before .before .before .before .before .if3 .taken) ∙ and-no _ (let k : codesSound (word w i 1) (word w i 4) (word w i 5) (word w i 6) ≡ false = cc (c .before .before .before .before .before .word-at4 .ensures, c .before .before .before .before .word-at5 .ensures, c .before .before .before .word-at6 .ensures, c .before .before .word-at7 .ensures, c .before .codes-sound .ensures, c .if4 .left) in k))
+returns-3 c = let s = c .before .before .before .before .before .before .before .before .before .before .before .before .before .before .before in let w = s .args .w .now in let i = s .args .i in sym (sound-groups (s .args .last-id) (s .args .last-stamp) (orderAt w i) ∙ and-yes _ (le-leb (word w i 0) (s .args .last-id) (subst (λ (x : ℕ). x ≤ s .args .last-id) (c .before .before .before .before .before .before .before .before .before .before .before .before .before .word-at .ensures) (c .before .before .before .before .before .before .before .before .before .before .before .before .if1 .left))) ∙ and-yes _ (ap (λ (x : ℕ). fromOne x mostShares) (sym (c .before .before .before .before .before .before .before .before .before .before .before .word-at2 .ensures)) ∙ sym (c .before .before .before .before .before .before .before .before .before .before .from-one .ensures) ∙ c .before .before .before .before .before .before .before .before .before .if2 .taken) ∙ and-yes _ (ap (λ (x : ℕ). fromOne x (s .args .last-stamp)) (sym (c .before .before .before .before .before .before .before .before .word-at3 .ensures)) ∙ sym (c .before .before .before .before .before .before .before .from-one2 .ensures) ∙ c .before .before .before .before .before .before .if3 .taken) ∙ and-no _ (sym (same-codes (c .before .before .before .before .before .word-at4 .ensures) (c .before .before .before .before .word-at5 .ensures) (c .before .before .before .word-at6 .ensures) (c .before .before .word-at7 .ensures)) ∙ sym (c .before .codes-sound .ensures) ∙ c .if4 .left))
 
 returns-4 : tie.Need-returns-4
 returns-4 c = let s = c .before .before .before .before .before .before .before .before .before in let w = s .args .w .now in let i = s .args .i in sym (sound-groups (s .args .last-id) (s .args .last-stamp) (orderAt w i) ∙ and-yes _ (le-leb (word w i 0) (s .args .last-id) (subst (λ (x : ℕ). x ≤ s .args .last-id) (c .before .before .before .before .before .before .before .word-at .ensures) (c .before .before .before .before .before .before .if1 .left))) ∙ and-yes _ (ap (λ (x : ℕ). fromOne x mostShares) (sym (c .before .before .before .before .before .word-at2 .ensures)) ∙ sym (c .before .before .before .before .from-one .ensures) ∙ c .before .before .before .if2 .taken) ∙ and-no _ (ap (λ (x : ℕ). fromOne x (s .args .last-stamp)) (sym (c .before .before .word-at3 .ensures)) ∙ sym (c .before .from-one2 .ensures) ∙ c .if3 .left))
