@@ -1,2 +1,3 @@
 pub mod Prices
 pub mod Restriction
+pub mod Watch

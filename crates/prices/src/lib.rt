@@ -12,3 +12,15 @@ pub enum PriceAnswer {
     Legal(Price),
     NotLegal,
 }
+
+// A host's own record of a close and the phase of the restriction under it.
+pub struct Watch {
+    pub close: u32,
+    pub phase: u32,
+}
+
+// What a watch answers to a tape price: the record is up to date, or the price isn't legal.
+pub enum WatchAnswer {
+    Updated,
+    NotLegal,
+}

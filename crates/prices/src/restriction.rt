@@ -1,6 +1,10 @@
 // The phases of the short sale restriction (17 CFR 242.201(b)).
+use crate::Watch;
+use crate::WatchAnswer;
+use crate::increments;
 ghost use mathlib.Core.Path.{_≡_};
 ghost use Rattle.prices.specs.Restriction.{phaseAfterTape, phaseAfterDayEnd, restrictionOn};
+ghost use Rattle.prices.specs.Watch.{watchedPhase, watched, watchOutcome, outcomeOfWatch};
 
 // Whether a tape price is 10% or more below the close. The products take 64 bits.
 pub fn triggers(close: u32, price: u32) -> bool
@@ -36,4 +40,30 @@ pub fn restriction_on(phase: u32) -> bool
         return true;
     }
     phase == 2
+}
+
+fn watched_phase(close: u32, phase: u32, price: u32) -> u32
+    ensures { λ r. ⌜ r ≡ watchedPhase close phase price ⌝ }
+{
+    if increments::is_legal(price) {
+        return phase_after_tape(close, phase, price);
+    }
+    phase
+}
+
+fn watch_answer(price: u32) -> WatchAnswer
+    ensures { λ r. ⌜ outcomeOfWatch r ≡ watchOutcome price ⌝ }
+{
+    if increments::is_legal(price) {
+        return WatchAnswer::Updated;
+    }
+    WatchAnswer::NotLegal
+}
+
+// A tape price on the host's own record: any close, any phase, any price.
+pub fn watch(watch: &mut Watch, price: u32) -> WatchAnswer
+    ensures { λ r. ⌜ (outcomeOfWatch r ≡ watchOutcome price) × (now (watch .exit) ≡ watched (now (watch .entry)) price) ⌝ }
+{
+    watch.phase = watched_phase(watch.close, watch.phase, price);
+    watch_answer(price)
 }
