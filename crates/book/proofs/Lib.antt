@@ -18,3 +18,4 @@ pub mod OrderConditionLaws
 pub mod SoundBookLaws
 pub mod SoundOrderLaws
 pub mod WalkLaws
+pub mod DepthLaws

@@ -5,3 +5,4 @@ pub mod Words
 pub mod Positions
 pub mod WordSteps
 pub mod RecordWalk
+pub mod Depth

@@ -1,4 +1,5 @@
 // Orders, their priority and matching: the third layer.
+pub mod depth;
 pub mod place;
 pub mod priority;
 pub mod search;
@@ -36,4 +37,16 @@ pub struct Order {
 pub enum Position {
     At(usize),
     Absent,
+}
+
+// The side of the book that depth is asked for.
+pub enum Side {
+    Buy,
+    Sell,
+}
+
+// What depth answers: the shares, or that the run has over 256 records.
+pub enum DepthAnswer {
+    Shares(u64),
+    TooMany,
 }
