@@ -13,13 +13,7 @@ fn on_side(mark: u32, side: Side) -> bool
 {
     match side {
         Side::Buy => mark == 0,
-        Side::Sell => {
-            if mark == 0 {
-                false
-            } else {
-                mark <= 3
-            }
-        },
+        Side::Sell => { if mark == 0 { false } else { mark <= 3 } },
     }
 }
 
