@@ -18,6 +18,7 @@ pub mod ReadingLaws
 pub mod RecordCalls
 pub mod RecordExamples
 pub mod CallLaws
+pub mod CopyLaws
 pub mod EnterLaws
 pub mod CancelLaws
 pub mod StepLaws

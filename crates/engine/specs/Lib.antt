@@ -16,3 +16,4 @@ pub mod Memory
 pub mod Steps
 pub mod Calls
 pub mod Examples
+pub mod Copy

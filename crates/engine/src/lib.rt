@@ -1,5 +1,6 @@
 // The venue of document 01: events, reports, refusals and the law of demand 3. The fourth layer.
 pub mod apply;
+pub mod copy;
 mod enter;
 pub mod header;
 pub mod host;
@@ -133,6 +134,14 @@ pub enum MayRefuse {
 pub enum Answer {
     Accepted(usize),
     Refused(Refusal),
+}
+
+// What copy out answers: how many records it filled, that the run is shorter than the book, or that the words break a condition of a
+// venue record.
+pub enum CopyAnswer {
+    Filled(usize),
+    RunTooShort,
+    VenueBroken,
 }
 
 // What open answers.
