@@ -28,3 +28,4 @@ pub mod RefuseLaws
 pub mod LeaveLaws
 pub mod QuoteLaws
 pub mod ApplyLaws
+pub mod HostLaws
