@@ -1,19 +1,71 @@
-/* The calls of the venue for C hosts. Link target/staticlib/libengine.a, which `rt staticlib engine` writes. */
+/* The calls of the venue for host programs. Link target/staticlib/libengine.a, which `rt staticlib engine` writes. */
 #ifndef VENUE_H
 #define VENUE_H
 
 #include <stddef.h>
 #include <stdint.h>
 
-/* A byte slice is a pointer and a length: `length` bytes stand there that nobody writes meanwhile. The pointer is never NULL, also where the
-   length is 0. */
+#ifdef __cplusplus
+extern "C" {
+#endif
+
+/* A run of words or bytes is a pointer and a length, counted in words or bytes. Nobody else writes it during the call, and a run that the call
+   writes shares nothing with another. The pointer is never NULL, also where the length is 0. */
+
+/* The words of a venue. A longer run is a venue with further words behind it, which keep their content. Between the calls the words are the
+   host's to copy and to store, and nobody's to change. */
+#define VENUE_WORDS 3344
+
+/* The least length of a report buffer: the reports of an event always fit it. */
+#define VENUE_REPORT_BYTES 16384
+
+/* venue_open and venue_apply answer refusal * 65,536 + byte count. Refusal 0 is none; a refusal has the byte count 0. */
+static inline uint32_t venue_refusal(uint32_t answer)
+{
+    return answer / 65536;
+}
+
+static inline uint32_t venue_byte_count(uint32_t answer)
+{
+    return answer % 65536;
+}
+
+/* Makes the first VENUE_WORDS words a fresh venue after a day with this close: restriction off, no bid, no orders. Whatever stood there is gone.
+   The answer is 0, or a refusal, which changes no word:
+   16  the run has fewer than VENUE_WORDS words
+    3  the close isn't a legal price: 1 to 100,000,000 ten-thousandths of a dollar, from 10,000 up a multiple of 100 */
+uint32_t venue_open(uint32_t *words, size_t words_length, uint32_t close);
+
+/* Applies the event whose record stands at the front of the bytes; bytes behind it don't matter. docs/EVENTS.md has the form of event records and
+   of reports. The event's reports stand at the front of the buffer afterwards, as many bytes as the byte count of the answer says; the bytes
+   behind them keep their content. A refusal changes no word and no byte. 9 to 12 come first, judged from the front of the record, then the others
+   in this order:
+    9  the record breaks off
+   10  a number of the record is bad: a tenth byte above 1, or a last group 0 after another
+   11  the kind isn't 1 to 5
+   12  a field is above 4,294,967,295
+   16  the words aren't a venue. What venue_open and venue_apply leave always is one
+    1  the buffer has fewer than VENUE_REPORT_BYTES bytes
+    2  the venue has accepted 16,777,215 events, the most it takes
+    3  a price, a bid or a close that isn't legal
+    4  shares not 1 to 1,000,000
+    5  mark, show, life or slide out of range, or a slide with a mark other than short
+    6  the id isn't above that of the last accepted entry
+    7  256 orders rest already
+    8  no order rests under the id to cancel */
+uint32_t venue_apply(uint32_t *words, size_t words_length, const uint8_t *record, size_t record_length, uint8_t *reports,
+                     size_t reports_length);
 
 /* The byte count of the event record that stands at the front of the bytes; bytes behind it don't matter.
-   0 on refusal: a byte is missing (9), a number is bad (10), the kind isn't 1 to 5 (11), or a field is above 4,294,967,295 (12). */
+   0 on refusal: 9 to 12, as above. */
 uint64_t venue_record_check(const uint8_t *bytes, size_t length);
 
 /* The permitted price of a national best bid, in ten-thousandths of a dollar: the lowest price that a restricted short sale may have.
    0 on refusal: the number isn't a bid (3). A bid is 0 (no bid) or a legal price up to 99,999,900. */
 uint32_t venue_permitted_price(uint32_t bid);
+
+#ifdef __cplusplus
+}
+#endif
 
 #endif

@@ -59,7 +59,7 @@ module _ (v : Venue) (e : Event) (n : ℕ) (i : Word (lastIdAfter v e)) where
   step-lastId l = unless-lastId (refusal v e n) l
 
 -- the last id after an event with 32-bit fields
-event-lastId : (v : Venue) (e : Event) → Word (v .lastId) → All Word (recordNumbers e) → Word (lastIdAfter v e)
+pub event-lastId : (v : Venue) (e : Event) → Word (v .lastId) → All Word (recordNumbers e) → Word (lastIdAfter v e)
 event-lastId v (entry e) i h = h .1 .0
 event-lastId v (cancel k) i h = i
 event-lastId v (bid b) i h = i

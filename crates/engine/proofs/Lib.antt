@@ -29,3 +29,4 @@ pub mod RefuseLaws
 pub mod LeaveLaws
 pub mod QuoteLaws
 pub mod ApplyLaws
+pub mod HostLaws

@@ -1,0 +1,109 @@
+"""A small study: a short sale order slides over a day with a falling and rising national bid while the restriction is on.
+
+It sends events to the venue and prints, from the reports alone, what becomes of order 1. examples/study.c is the same in C.
+Build and run, from the repository's root:
+rt staticlib engine && cc -shared -o target/libvenue.so -Wl,--whole-archive target/staticlib/libengine.a -Wl,--no-whole-archive && python3 examples/study.py
+"""
+from ctypes import CDLL, POINTER, c_size_t, c_uint8, c_uint32
+
+ENTRY, CANCEL, BID, TAPE, DAY_END = 1, 2, 3, 4, 5
+
+# include/venue.h says what the calls take and answer
+VENUE_WORDS = 3344
+VENUE_REPORT_BYTES = 16384
+venue = CDLL("target/libvenue.so")
+venue.venue_open.argtypes = [POINTER(c_uint32), c_size_t, c_uint32]
+venue.venue_open.restype = c_uint32
+venue.venue_apply.argtypes = [POINTER(c_uint32), c_size_t, POINTER(c_uint8), c_size_t, POINTER(c_uint8), c_size_t]
+venue.venue_apply.restype = c_uint32
+
+words = (c_uint32 * VENUE_WORDS)()
+reports = (c_uint8 * VENUE_REPORT_BYTES)()
+
+# the national bid, and what the reports say of order 1: its present price and the shares left
+bid, price, left = 0, 0, 0
+
+
+def number_bytes(x):
+    """A number in the seven-bit form."""
+    return bytes([x]) if x < 128 else bytes([x % 128 + 128]) + number_bytes(x // 128)
+
+
+def numbers_of(data):
+    """The numbers that stand one after another in the bytes."""
+    x, shift = 0, 0
+    for byte in data:
+        x += (byte % 128) << shift
+        shift += 7
+        if byte < 128:
+            yield x
+            x, shift = 0, 0
+
+
+def take_report(kind, rest, entered):
+    """The report in words; keeps what it says of order 1."""
+    global price, left
+    if kind == 1:
+        order, stamp, at = next(rest), next(rest), next(rest)
+        if order == 1:
+            price, left = at, entered
+        return f"order {order} accepted at {at}, stamp {stamp}"
+    if kind == 2:
+        buyer, seller, at, shares = next(rest), next(rest), next(rest), next(rest)
+        if 1 in (buyer, seller):
+            left -= shares
+        return f"{buyer} buys {shares} of {seller} at {at}"
+    if kind == 3:
+        order, shares, cause = next(rest), next(rest), next(rest)
+        if order == 1:
+            left -= shares
+        return f"order {order} cancelled, {shares} shares, cause {cause}"
+    if kind == 4:
+        order, at, stamp = next(rest), next(rest), next(rest)
+        if order == 1:
+            price = at
+        return f"order {order} re-priced to {at}, stamp {stamp}"
+    if kind == 5:
+        return "restriction on"
+    return f"day ended, phase {next(rest)}"
+
+
+def play(what, *numbers):
+    """Sends an event, a kind and its fields, and prints a line of the table for it."""
+    global bid
+    data = b"".join(number_bytes(x) for x in numbers)
+    record = (c_uint8 * len(data)).from_buffer_copy(data)
+    answer = venue.venue_apply(words, len(words), record, len(record), reports, len(reports))
+    refusal, count = divmod(answer, 65536)
+    rest = numbers_of(reports[:count])
+    entered = numbers[4] if numbers[0] == ENTRY else 0
+    line = "; ".join(take_report(kind, rest, entered) for kind in rest)
+    if refusal != 0:
+        line = f"refused, {refusal}"
+    elif numbers[0] == BID:
+        bid = numbers[1]
+    elif numbers[0] == DAY_END:
+        bid = 0
+    print(f"{what:<24} {bid:>6} {price if left > 0 else '-':>6} {left:>5}  {line or '-'}")
+
+
+def main():
+    answer = venue.venue_open(words, len(words), 100000)
+    if answer != 0:
+        raise SystemExit(f"open refused, {answer // 65536}")
+    print(f"{'event':<24} {'bid':>6} {'price':>6} {'left':>5}  reports")
+    play("bid 95000", BID, 95000)
+    play("tape 90000", TAPE, 90000)
+    play("bid 91000", BID, 91000)
+    # id, mark 2 (short), limit, shares, displayed, day, slide 0 (continuous)
+    play("1 sells 500 short, 90500", ENTRY, 1, 2, 90500, 500, 1, 0, 0)
+    play("bid 90700", BID, 90700)
+    play("bid 90900", BID, 90900)
+    play("bid 90300", BID, 90300)
+    play("2 buys 200, 90600", ENTRY, 2, 0, 90600, 200, 1, 0, 0)
+    play("bid 90000", BID, 90000)
+    play("cancel 2", CANCEL, 2)
+    play("day end, close 90000", DAY_END, 90000)
+
+
+main()
