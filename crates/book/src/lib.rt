@@ -9,6 +9,7 @@ pub mod words;
 
 // An order as document 01, "Orders", has it: the fields of its entry, then what the venue adds. `limit` is the price of the
 // entry, `price` the present price, and `shares` those left.
+#[repr(C)]
 pub struct Order {
     pub id: u32,
     // 0 buy, 1 long sell, 2 short, 3 short exempt

@@ -97,3 +97,6 @@ within-at w n i false z s h lt = let l : i < 0 = rw (copy-broken w n s) at lt in
 
 pub turn-within : (w : List ℕ) (n i : ℕ) → i < copies w n → Within w n i
 turn-within w n i lt = within-at w n i (soundWords w) (leb (length (resting w)) n) refl refl lt
+
+pub copied-length : (w : List ℕ) (l : List Order) → length (copied w l) ≡ length l
+copied-length w l = ap length (sym (copy-is w l)) ∙ fill-length (copies w (length l)) (orderOut w) l

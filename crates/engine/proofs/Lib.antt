@@ -29,4 +29,3 @@ pub mod RefuseLaws
 pub mod LeaveLaws
 pub mod QuoteLaws
 pub mod ApplyLaws
-pub mod HostLaws

@@ -15,6 +15,5 @@ pub mod Demand3
 pub mod Memory
 pub mod Steps
 pub mod Calls
-pub mod Host
 pub mod Examples
 pub mod Copy

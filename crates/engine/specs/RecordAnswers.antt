@@ -37,12 +37,3 @@ outcomeOfField (fieldRefused r) = refuses (readRefusalNumber r)
 abbrev pub outcomeOfFields : FieldsRead → List ℕ → Outcome (Read (List ℕ))
 outcomeOfFields (fieldsEnd end) xs = gives (record { value = xs; end = end })
 outcomeOfFields (fieldsRefused r) xs = refuses (readRefusalNumber r)
-
--- "these give 0 on refusal (3; 9 to 12), else the price, or the record's byte count; the check reads at offset 0"
-abbrev pub endOrZero : {A : Type 0} → Outcome (Read A) → ℕ
-endOrZero (gives r) = r.end
-endOrZero (refuses n) = 0
-
-abbrev pub valueOrZero : Outcome ℕ → ℕ
-valueOrZero (gives x) = x
-valueOrZero (refuses n) = 0

@@ -3,7 +3,6 @@ pub mod apply;
 pub mod copy;
 mod enter;
 pub mod header;
-pub mod host;
 pub mod leave;
 pub mod open;
 mod quote;

@@ -1,3 +1,4 @@
 -- Laws that the layers above cite.
 pub mod PriceLaws
 pub mod RestrictionLaws
+pub mod Returned

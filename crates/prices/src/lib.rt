@@ -14,6 +14,7 @@ pub enum PriceAnswer {
 }
 
 // A host's own record of a close and the phase of the restriction under it.
+#[repr(C)]
 pub struct Watch {
     pub close: u32,
     pub phase: u32,

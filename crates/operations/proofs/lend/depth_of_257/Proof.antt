@@ -51,7 +51,7 @@ use Rattle.book.specs.Depth.{depthOf, outcomeOfDepth}
 use Rattle.book.specs.declared.Order.{Order}
 use Rattle.book.specs.declared.Side.{Side}
 use Rattle.book.specs.declared.DepthAnswer.{DepthAnswer}
-use Rattle.operations.proofs.Returned.{returned}
+use Rattle.prices.proofs.Returned.{returned}
 use Rattle.book.proofs.Order as T
 use Rattle.book.proofs.Order.Laws as T′
 use Rattle.book.proofs.Side as S

@@ -1,0 +1,2 @@
+mod HostLaws
+mod CopyCount

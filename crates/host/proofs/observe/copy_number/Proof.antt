@@ -1,0 +1,50 @@
+-- A refusal's number, and a count of records as it is. Assumes nothing.
+use native.Mathlib.Omega.{arith}
+use mathlib.Core.Path.{subst}
+use Rattle.engine.specs.declared.CopyAnswer.{CopyAnswer}
+use Rattle.engine.specs.Copy.{outcomeOfCopy}
+use Rattle.host.specs.Host.{CountFits}
+use borrow.Author.Needs.{needs}
+use Rattle.host.proofs.observe.copy_number.Statement.{statement}
+use Rattle.host.proofs.observe.copy_number.Tie as tie
+
+enum-known-answer : tie.Need-enum-known-answer
+enum-known-answer c = search needs
+
+cast-result : tie.Need-cast-result
+cast-result c = let h = subst (λ (a : CopyAnswer). CountFits (outcomeOfCopy a)) (c .before .answer .given .1) (c .before .before .before .pre) in record { fits = omega arith }
+
+enum-told : tie.Need-enum-told
+enum-told c = search needs
+
+refused-requires : tie.Need-refused-requires
+refused-requires c κs = search needs
+
+enum-told-2 : tie.Need-enum-told-2
+enum-told-2 c = search needs
+
+refused-requires-2 : tie.Need-refused-requires-2
+refused-requires-2 c κs = search needs
+
+returns : tie.Need-returns
+returns c = search needs
+
+returns-2 : tie.Need-returns-2
+returns-2 c = search needs
+
+returns-3 : tie.Need-returns-3
+returns-3 c = search needs
+
+pub copy-number-spec : {M : Type 1} → statement M
+copy-number-spec =
+    tie.close
+    (tie.spec
+    enum-known-answer
+    cast-result
+    enum-told
+    refused-requires
+    enum-told-2
+    refused-requires-2
+    returns
+    returns-2
+    returns-3)
