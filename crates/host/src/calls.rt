@@ -1,4 +1,5 @@
 // Open, the event, the record check and the permitted price for host programs.
+use book::sound;
 use engine::Answer;
 use engine::Event;
 use engine::OpenAnswer;
@@ -8,7 +9,6 @@ use engine::apply;
 use engine::open;
 use engine::record;
 use engine::refusals;
-use book::sound;
 use prices::PriceAnswer;
 use prices::increments;
 ghost use mathlib.Core.Path.{_≡_};
