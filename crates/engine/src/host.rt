@@ -16,7 +16,6 @@ ghost use mathlib.Core.List.{_++_};
 ghost use Prim.Native.Nat.{_≤_};
 ghost use lib.ListN.{length, drop};
 ghost use Rattle.numbers.specs.Tests.{All};
-ghost use Rattle.numbers.specs.Answers.{refuses};
 ghost use Rattle.prices.specs.Prices.{permittedOf};
 ghost use Rattle.engine.specs.Records.{recordNumbers, recordAt};
 ghost use Rattle.engine.specs.RoundTrips.{Word};
@@ -24,13 +23,8 @@ ghost use Rattle.engine.specs.RecordAnswers.{endOrZero, valueOrZero};
 ghost use Rattle.engine.specs.Calls.{outcomeOfAnswer};
 ghost use Rattle.engine.specs.Host.{hostAnswer, HostOpened, CountFits, EventApplied, HostApplied};
 
-// The answer of a refusal.
-fn refused(number: u32) -> u32
-    requires { ⌜ number ≤ 16 ⌝ }
-    ensures { λ r. ⌜ r ≡ hostAnswer (refuses number) ⌝ }
-{
-    number * 65_536
-}
+// An answer is refusal × REFUSAL_UNIT + byte count.
+const REFUSAL_UNIT: u32 = 65_536;
 
 // Copies words to the front of a run that has room for them.
 fn copy_words(to: &mut [u32], from: &[u32])
@@ -50,12 +44,12 @@ pub extern "C" fn venue_open(words: &mut [u32], close: u32) -> u32
     ensures { λ r. ⌜ HostOpened (now (words .entry)) close r (now (words .exit)) ⌝ }
 {
     if words.len() < sound::VENUE {
-        return refused(refusals::number_of(Refusal::VenueBroken));
+        return refusals::number_of(Refusal::VenueBroken) * REFUSAL_UNIT;
     }
     let opened = open::open(close);
     let answer = opened.answer;
     match answer {
-        OpenAnswer::NotOpened(refusal) => refused(refusals::number_of(refusal)),
+        OpenAnswer::NotOpened(refusal) => refusals::number_of(refusal) * REFUSAL_UNIT,
         OpenAnswer::Fresh => {
             let fresh = opened.words;
             copy_words(words, &fresh);
@@ -70,7 +64,7 @@ fn answer_number(answer: Answer) -> u32
     ensures { λ r. ⌜ r ≡ hostAnswer (outcomeOfAnswer answer) ⌝ }
 {
     match answer {
-        Answer::Refused(refusal) => refused(refusals::number_of(refusal)),
+        Answer::Refused(refusal) => refusals::number_of(refusal) * REFUSAL_UNIT,
         Answer::Accepted(count) => count as u32,
     }
 }
@@ -89,7 +83,7 @@ pub extern "C" fn venue_apply(words: &mut [u32], record: &[u8], reports: &mut [u
     ensures { λ r. ⌜ HostApplied (now (words .entry)) (now («record» .entry)) (now (reports .entry)) r (now (words .exit)) (now (reports .exit)) ⌝ }
 {
     match record::read_record(record, 0) {
-        RecordRead::Refused(refusal) => refused(refusals::read_number_of(refusal)),
+        RecordRead::Refused(refusal) => refusals::read_number_of(refusal) * REFUSAL_UNIT,
         RecordRead::Record { event, end: _ } => apply_event(words, event, reports),
     }
 }
