@@ -1,6 +1,6 @@
 /* A host program in C: checks event records and asks for permitted prices.
    Build and run, from the repository's root:
-   rt staticlib engine && cc -Wall -Wextra -Iinclude examples/host.c target/staticlib/libengine.a -o target/host && target/host */
+   rt staticlib host && cc -Wall -Wextra -Iinclude examples/host.c target/staticlib/libhost.a -o target/host && target/host */
 #include <inttypes.h>
 #include <stdio.h>
 #include <venue.h>

@@ -1,7 +1,7 @@
 /* A small study: a short sale order slides over a day with a falling and rising national bid while the restriction is on.
    It sends events to the venue and prints, from the reports alone, what becomes of order 1. examples/study.py is the same in Python.
    Build and run, from the repository's root:
-   rt staticlib engine && cc -Wall -Wextra -Iinclude examples/study.c target/staticlib/libengine.a -o target/study && target/study */
+   rt staticlib host && cc -Wall -Wextra -Iinclude examples/study.c target/staticlib/libhost.a -o target/study && target/study */
 #include <inttypes.h>
 #include <stdio.h>
 #include <string.h>

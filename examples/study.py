@@ -2,7 +2,7 @@
 
 It sends events to the venue and prints, from the reports alone, what becomes of order 1. examples/study.c is the same in C.
 Build and run, from the repository's root:
-rt staticlib engine && cc -shared -o target/libvenue.so -Wl,--whole-archive target/staticlib/libengine.a -Wl,--no-whole-archive && python3 examples/study.py
+rt staticlib host && cc -shared -o target/libvenue.so -Wl,--whole-archive target/staticlib/libhost.a -Wl,--no-whole-archive && python3 examples/study.py
 """
 from ctypes import CDLL, POINTER, c_size_t, c_uint8, c_uint32
 

@@ -1,4 +1,4 @@
-/* The calls of the venue for host programs. Link target/staticlib/libengine.a, which `rt staticlib engine` writes. */
+/* The calls of the venue for host programs. Link target/staticlib/libhost.a, which `rt staticlib host` writes. */
 #ifndef VENUE_H
 #define VENUE_H
 

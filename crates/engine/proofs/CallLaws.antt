@@ -23,7 +23,7 @@ use Rattle.engine.specs.Run.{Step, stepUnless, step, Call, Run, run}
 use Rattle.engine.specs.Records.{recordNumbers, reportsBytes}
 use Rattle.engine.specs.RoundTrips.{Word, ReportWords}
 use Rattle.engine.specs.Memory.{venueOf}
-use Rattle.engine.specs.Calls.{openedWords, stepIn, countOf, bufferAfter, HostCall, Chain, none, more, withReports, readOf, answeredOf, Demand3OfCalls, NoCallGets16, bytesGot, reportsGot, LongEnough, SameForBoth, EqualReports}
+use Rattle.engine.specs.Calls.{openedWords, stepIn, countOf, bufferAfter, Applied, HostCall, Chain, none, more, LawfulCalls, withReports, readOf, answeredOf, Demand3OfCalls, NoCallGets16, bytesGot, reportsGot, LongEnough, SameForBoth, EqualReports}
 use Rattle.engine.proofs.RefusalLaws.{NotRefused, Unless, refusal-known}
 use Rattle.engine.proofs.OpeningLaws.{opening-gives, opened-book, opened-venue, step-in}
 use Rattle.engine.proofs.ReachedLaws.{reached-is-sound}
@@ -97,30 +97,37 @@ chain-run {w} {w′} t i (more {w₁ = w₁} {c = c} {cs = cs} h a r) =
     let rest : map answeredOf cs ≡ map some (run (s .venue) (map callOf cs) .answered) = g .readable in
     record { layout = g .layout; venue = g .venue; readable = cc }
 
-opened-run : (close : ℕ) → T (legal close) → {cs : List HostCall} {w : List ℕ} → Chain (openedWords close) cs w → IsRun cs w (run (opened close) (map callOf cs))
-unfolding opened
-opened-run close t {cs} {w} c =
-    subst (λ (v : Venue). IsRun cs w (run v (map callOf cs))) (opened-venue close t) (chain-run (opened-book close) (rw (opened-venue close t) (omega arith)) c)
+-- from words that mean a fresh venue
+module _ (close : ℕ) (t : T (legal close)) {w₀ : List ℕ} (u : T (isBook w₀)) (f : venueOf w₀ ≡ opened close) where
+  fresh-run : {cs : List HostCall} {w : List ℕ} → Chain w₀ cs w → IsRun cs w (run (opened close) (map callOf cs))
+  unfolding opened
+  fresh-run {cs} {w} c = subst (λ (v : Venue). IsRun cs w (run v (map callOf cs))) f (chain-run u (rw f (omega arith)) c)
+
+  pub demand3-from : (cs : List HostCall) (w′ : List ℕ) → Chain w₀ cs w′ → LawfulCalls close cs w′
+  unfolding venueOf
+  demand3-from cs w′ c =
+      let r = fresh-run c in
+      let n : Run = run (opened close) (map callOf cs) in
+      record {
+        read = n .answered;
+        readable = r .readable;
+        lawful = rw (ap (λ (v : Venue). v .orders) (r .venue)) (demand3 close (opened close) (opening-gives close t) (map callOf cs));
+      }
+
+  pub no-16-from : (cs : List HostCall) (w : List ℕ) → Chain w₀ cs w → (e : Event) (b : List ℕ) (answer : Outcome ℕ) (w′ b′ : List ℕ) → Applied w e b answer w′ b′ → answer ≡ refuses 16 → ⊥
+  no-16-from cs w c e b answer w′ b′ a z =
+      let r = fresh-run c in
+      reached-is-sound close (opened close) (opening-gives close t) (map callOf cs) e (length b) (counted _ (sym (rw (step-in w e (length b) (r .layout), r .venue) at (a .answers)) ∙ z))
+    where
+      counted : (x : Outcome (List Report)) → countOf x ≡ refuses 16 → x ≡ refuses 16
+      counted (gives rs) y = let q : _≡_ {A = ℕ} 0 1 = cc in absurd (omega arith)
+      counted (refuses n) y = let q : n ≡ 16 = cc in ap refuses q
 
 pub demand3-of-calls : Demand3OfCalls
-unfolding venueOf
-demand3-of-calls close t cs w′ c =
-    let r = opened-run close t c in
-    let n : Run = run (opened close) (map callOf cs) in
-    record {
-      read = n .answered;
-      readable = r .readable;
-      lawful = rw (ap (λ (v : Venue). v .orders) (r .venue)) (demand3 close (opened close) (opening-gives close t) (map callOf cs));
-    }
+demand3-of-calls close t = demand3-from close t (opened-book close) (opened-venue close t)
 
 pub no-call-gets-16 : NoCallGets16
-no-call-gets-16 close t cs w c e b answer w′ b′ a z =
-    let r = opened-run close t c in
-    reached-is-sound close (opened close) (opening-gives close t) (map callOf cs) e (length b) (counted _ (sym (rw (step-in w e (length b) (r .layout), r .venue) at (a .answers)) ∙ z))
-  where
-    counted : (x : Outcome (List Report)) → countOf x ≡ refuses 16 → x ≡ refuses 16
-    counted (gives rs) y = let q : _≡_ {A = ℕ} 0 1 = cc in absurd (omega arith)
-    counted (refuses n) y = let q : n ≡ 16 = cc in ap refuses q
+no-call-gets-16 close t = no-16-from close t (opened-book close) (opened-venue close t)
 
 -- equal events
 
@@ -138,7 +145,7 @@ unfolding overwrite
 got-bytes a b (gives rs) = take-append-seam (reportsBytes rs) _ ∙ sym (take-append-seam (reportsBytes rs) _)
 got-bytes a b (refuses n) = refl
 
-both : {w v w′ v′ : List ℕ} {cs ds : List HostCall} → T (isBook w) → T (isBook v) → venueOf w ≡ venueOf v → Chain w cs w′ → Chain v ds v′ → map (λ (c : HostCall). c .event) cs ≡ map (λ (c : HostCall). c .event) ds → All LongEnough cs → All LongEnough ds → SameForBoth cs ds w′ v′
+pub both : {w v w′ v′ : List ℕ} {cs ds : List HostCall} → T (isBook w) → T (isBook v) → venueOf w ≡ venueOf v → Chain w cs w′ → Chain v ds v′ → map (λ (c : HostCall). c .event) cs ≡ map (λ (c : HostCall). c .event) ds → All LongEnough cs → All LongEnough ds → SameForBoth cs ds w′ v′
 both t u e none none q h k = record { answers = refl; reports = refl; venue = e }
 both t u e none (more y b d) q h k = let z : _≡_ {A = ℕ} 0 1 = cc in absurd (omega arith)
 both t u e (more x a c) none q h k = let z : _≡_ {A = ℕ} 0 1 = cc in absurd (omega arith)

@@ -6,6 +6,7 @@ use native.Mathlib.Numerals.{add-one}
 use mathlib.Core.Path.{_≡_, refl, sym, ap, _∙_, subst}
 use mathlib.Core.Option.{Option, none, some}
 use mathlib.Core.List.{List, [], _∷_, _++_}
+use lib.Dec.{T, leb}
 use lib.ListN.{length, getD, take, drop, set, length-replicate}
 use lib.Seq.{length-take-le, take-suc, drop-cons, append-snoc, set-at}
 use borrow.Author.Tests.{le-leb, lt-leb}
@@ -14,7 +15,7 @@ use Rattle.numbers.specs.Answers.{Outcome, gives, refuses, Read}
 use Rattle.numbers.specs.SevenBit.{IsByte}
 use Rattle.numbers.proofs.TestLaws.{by-test}
 use Rattle.prices.specs.Prices.{legal}
-use Rattle.book.specs.Words.{venueWords}
+use Rattle.book.specs.Words.{venueWords, isBook}
 use Rattle.engine.specs.declared.Event.{Event}
 use Rattle.engine.specs.declared.Refusal.{Refusal}
 use Rattle.engine.specs.declared.Refusal.the-variants.{BufferTooShort, EventsSpent, PriceNotLegal, SharesOutOfRange, CodeOutOfRange, IdNotNew, BookFull, NotResting, VenueBroken}
@@ -22,18 +23,19 @@ use Rattle.engine.specs.declared.ReadRefusal.{ReadRefusal}
 use Rattle.engine.specs.declared.ReadRefusal.the-variants.{MissingByte, BadNumber, UnknownKind, FieldTooLarge}
 use Rattle.engine.specs.declared.OpenAnswer.{OpenAnswer}
 use Rattle.engine.specs.declared.OpenAnswer.the-variants.{Fresh, NotOpened}
-use Rattle.engine.specs.Venue.{opening}
+use Rattle.engine.specs.Venue.{Venue, opened, opening}
 use Rattle.engine.specs.Run.{Step, stepUnless}
 use Rattle.engine.specs.Records.{recordNumbers, recordAt}
 use Rattle.engine.specs.RoundTrips.{Word}
 use Rattle.engine.specs.RecordAnswers.{readRefusalNumber}
 use Rattle.engine.specs.Memory.{venueOf, refusalIn}
 use Rattle.engine.specs.Calls.{refusalNumber, openedWords, Opens, countOf, Applied}
-use Rattle.host.specs.Host.{hostAnswer, hostOpening, HostOpened, CountFits, EventApplied, HostApplied}
+use Rattle.host.specs.Host.{hostAnswer, openCount, hostOpening, wordsOpened, HostOpened, CountFits, EventApplied, HostApplied, Demand3OfHosts, NoHostGets16, EqualHostReports}
+use Rattle.engine.proofs.OpeningLaws.{opened-book-with, opened-venue-with}
 use Rattle.engine.proofs.ApplyLaws.{step-by-refusal, not-refused}
 use Rattle.engine.proofs.BoundLaws.{reports-room}
 use Rattle.engine.proofs.RecordLaws.{record-unique}
-use Rattle.engine.proofs.CallLaws.{event-lastId}
+use Rattle.engine.proofs.CallLaws.{event-lastId, demand3-from, no-16-from, both}
 
 -- the numbers of refusals are small
 
@@ -123,3 +125,33 @@ apply-refused w bytes b e a = rw e (record { answers = a; words = refl; buffer =
 
 pub apply-read : (bytes : List ℕ) {w b w′ b′ : List ℕ} {answer : ℕ} {r : Read Event} → recordAt bytes 0 ≡ gives r → EventApplied w (r .value) b answer w′ b′ → HostApplied w bytes b answer w′ b′
 apply-read bytes e a = rw e a
+
+-- chains of calls
+
+record FreshWords (w₀ : List ℕ) (close : ℕ) : Type 0 where
+  legal : T (legal close)
+  layout : T (isBook w₀)
+  venue : venueOf w₀ ≡ opened close
+
+opened-fresh : {w w₀ : List ℕ} {close : ℕ} → HostOpened w close 0 w₀ → FreshWords w₀ close
+unfolding hostOpening opening
+opened-fresh {w} {w₀} {close} h =
+    by-test Known (leb venueWords (length w)) (λ t. by-test (λ (o : Outcome Venue). Known (openCount o)) (legal close) (λ u a l. known u l) (λ u a l. absurd (omega arith))) (λ t a l. absurd (omega arith)) (h .answers) (h .leaves)
+  where
+    Known : Outcome ℕ → Type 0
+    Known o = 0 ≡ hostAnswer o → w₀ ≡ wordsOpened w close o → FreshWords w₀ close
+
+    known : T (legal close) → w₀ ≡ openedWords close ++ drop venueWords w → FreshWords w₀ close
+    known u l = record { legal = u; layout = rw l (opened-book-with close (drop venueWords w)); venue = rw l (opened-venue-with close (drop venueWords w) u) }
+
+pub demand3-of-hosts : Demand3OfHosts
+demand3-of-hosts w close w₀ h = let f = opened-fresh h in demand3-from close (f .legal) (f .layout) (f .venue)
+
+pub no-host-gets-16 : NoHostGets16
+no-host-gets-16 w close w₀ h = let f = opened-fresh h in no-16-from close (f .legal) (f .layout) (f .venue)
+
+pub equal-host-reports : EqualHostReports
+equal-host-reports close w v w₀ v₀ h k cs ds w′ v′ c d =
+    let f = opened-fresh h in
+    let g = opened-fresh k in
+    both (f .layout) (g .layout) (f .venue ∙ sym (g .venue)) c d

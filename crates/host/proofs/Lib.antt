@@ -1,2 +1,3 @@
-mod HostLaws
-mod CopyCount
+-- Laws of the calls for hosts.
+pub mod HostLaws
+pub mod CopyCount

@@ -2,17 +2,17 @@
 -- Assumes nothing.
 use Prim.Native.Nat.{ℕ, _*_, _≤_}
 use mathlib.Core.Path.{_≡_}
-use mathlib.Core.List.{List, _++_}
+use mathlib.Core.List.{List, _++_, map}
 use lib.Dec.{leb}
 use lib.ListN.{length, drop}
-use Rattle.numbers.specs.Tests.{pick}
+use Rattle.numbers.specs.Tests.{pick, All}
 use Rattle.numbers.specs.Answers.{Outcome, gives, refuses, Read}
 use Rattle.book.specs.Words.{venueWords}
 use Rattle.engine.specs.declared.Event.{Event}
 use Rattle.engine.specs.Venue.{Venue, opening}
 use Rattle.engine.specs.Refusals.{leastBuffer}
 use Rattle.engine.specs.Records.{recordAt}
-use Rattle.engine.specs.Calls.{openedWords, Applied}
+use Rattle.engine.specs.Calls.{openedWords, Applied, HostCall, Chain, LawfulCalls, LongEnough, SameForBoth}
 
 -- the number that a host call answers, refusal × 65,536 + byte count: a byte count has no refusal, and a refusal no byte count
 abbrev pub hostAnswer : Outcome ℕ → ℕ
@@ -80,3 +80,27 @@ endOrZero (refuses n) = 0
 abbrev pub valueOrZero : Outcome ℕ → ℕ
 valueOrZero (gives x) = x
 valueOrZero (refuses n) = 0
+
+-- What holds of every chain of calls holds of hosts, whose run may be longer than a venue: from the words that venue_open leaves with the
+-- answer 0. A call of venue_apply whose record reads as an event is a call of the chain (`EventApplied`), and any other changes nothing
+
+-- demand 3
+abbrev pub Demand3OfHosts : Type 0
+Demand3OfHosts =
+    (w : List ℕ) (close : ℕ) (w₀ : List ℕ) → HostOpened w close 0 w₀ →
+    (cs : List HostCall) (w′ : List ℕ) → Chain w₀ cs w′ → LawfulCalls close cs w′
+
+-- "No venue reached from open gets 16"
+abbrev pub NoHostGets16 : Type 0
+NoHostGets16 =
+    (w : List ℕ) (close : ℕ) (w₀ : List ℕ) → HostOpened w close 0 w₀ →
+    (cs : List HostCall) (w₁ : List ℕ) → Chain w₀ cs w₁ →
+    (e : Event) (b : List ℕ) (answer : Outcome ℕ) (w′ b′ : List ℕ) → Applied w₁ e b answer w′ b′ → answer ≡ refuses 16 → ⊥
+
+-- equal events, equal reports, in runs of any length
+abbrev pub EqualHostReports : Type 0
+EqualHostReports =
+    (close : ℕ) (w v w₀ v₀ : List ℕ) → HostOpened w close 0 w₀ → HostOpened v close 0 v₀ →
+    (cs ds : List HostCall) (w′ v′ : List ℕ) → Chain w₀ cs w′ → Chain v₀ ds v′ →
+    map (λ (c : HostCall). c .event) cs ≡ map (λ (c : HostCall). c .event) ds → All LongEnough cs → All LongEnough ds →
+    SameForBoth cs ds w′ v′

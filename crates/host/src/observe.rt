@@ -23,8 +23,8 @@ fn copy_number(answer: CopyAnswer) -> u32
 {
     match answer {
         CopyAnswer::Filled(count) => count as u32,
-        CopyAnswer::RunTooShort => calls::refused(14),
-        CopyAnswer::VenueBroken => calls::refused(16),
+        CopyAnswer::RunTooShort => 14 * calls::REFUSAL_UNIT,
+        CopyAnswer::VenueBroken => 16 * calls::REFUSAL_UNIT,
     }
 }
 
@@ -67,7 +67,7 @@ fn watch_number(answer: WatchAnswer) -> u32
 {
     match answer {
         WatchAnswer::Updated => 0,
-        WatchAnswer::NotLegal => calls::refused(3),
+        WatchAnswer::NotLegal => 3 * calls::REFUSAL_UNIT,
     }
 }
 

@@ -1,8 +1,9 @@
 //! `compare`: the proved engine and the model on the same streams.
 //!
-//! What is taken for granted of the wrappers beyond document 01: a record is
+//! What is taken for granted of the host calls beyond document 01: a record is
 //! read before the venue is looked at, so 9 to 12 come before 16; bytes behind
-//! the record don't matter; a refused open answers 3 × 65,536; places that the
+//! the record don't matter; open refuses a run that is too short with 16, before
+//! 3 for the close; a fresh venue is 0 in every place; later, places that the
 //! venue doesn't use may hold anything; words behind the venue keep their
 //! content.
 
@@ -16,6 +17,19 @@ use crate::streams::{odd_number, Session, Step};
 
 /// Room for a broken record of 257 orders, and words behind the venue.
 const WORDS: usize = engine::VENUE_WORDS + 64;
+
+/// Lengths of runs for open: too short, just long enough, longer.
+const ODD_LENGTHS: [usize; 9] = [
+    0,
+    1,
+    15,
+    16,
+    100,
+    engine::VENUE_WORDS - 1,
+    engine::VENUE_WORDS,
+    engine::VENUE_WORDS + 1,
+    WORDS,
+];
 
 /// What differs.
 type Difference = String;
@@ -37,7 +51,7 @@ fn compare_session(seed: u64, pair: &mut Pair, counts: &mut Counts) {
     let mut session = Session::new(seed);
     counts.session(session.kind);
     let mut step_number = 0;
-    let mut outcome = pair.start(seed, &session);
+    let mut outcome = pair.start(seed, &session, counts);
     while outcome.is_ok() {
         let Some(step) = session.next(&pair.venue) else {
             return;
@@ -91,17 +105,21 @@ impl Pair {
     }
 
     /// Brings both sides to the session's start.
-    fn start(&mut self, seed: u64, session: &Session) -> Result<(), Difference> {
+    fn start(
+        &mut self,
+        seed: u64,
+        session: &Session,
+        counts: &mut Counts,
+    ) -> Result<(), Difference> {
         let mut rng = Rng::new(!seed);
         self.venue = session.start.clone();
         self.words.copy_from_slice(&self.noise);
         self.is_no_record = false;
         self.lent_words = rng.pick(&[engine::VENUE_WORDS, WORDS]);
         if session.kind.is_from_open() {
-            self.compare_odd_open(odd_number(&mut rng))?;
-            let close = self.venue.close;
-            let answer = engine::open(&mut self.words[..self.lent_words], close);
-            same("answer of open", answer, 0)?;
+            let lent_words = rng.pick(&ODD_LENGTHS);
+            self.compare_open(lent_words, odd_number(&mut rng), counts)?;
+            self.compare_open(self.lent_words, self.venue.close, counts)?;
             return self.compare_venue();
         }
         engine::store(&self.venue, &mut self.words);
@@ -112,12 +130,29 @@ impl Pair {
         Ok(())
     }
 
-    /// An open with an odd number for a close: the same answer.
-    fn compare_odd_open(&mut self, close: u32) -> Result<(), Difference> {
-        let model = Venue::open(close);
-        let answer = engine::open(&mut self.words[..self.lent_words], close);
-        let expected = engine::answer_of(model.as_ref().map(|_| 0).map_err(|&refusal| refusal));
-        same("answer of open", answer, expected)
+    /// An open of so many words: the same answer and every word, those behind
+    /// the venue and those of a refused open as they were.
+    fn compare_open(
+        &mut self,
+        lent_words: usize,
+        close: u32,
+        counts: &mut Counts,
+    ) -> Result<(), Difference> {
+        self.before.copy_from_slice(&self.words);
+        let answer = engine::open(&mut self.words[..lent_words], close);
+        let model = if lent_words < engine::VENUE_WORDS {
+            Err(Refusal::VenueRecord)
+        } else {
+            Venue::open(close)
+        };
+        let expected = model.as_ref().map(|_| 0).map_err(|&refusal| refusal);
+        same("answer of open", answer, engine::answer_of(expected))?;
+        if let Ok(venue) = &model {
+            self.before[..engine::VENUE_WORDS].copy_from_slice(&engine::fresh_words(venue));
+        }
+        counts.open(expected.err());
+        let differing = (0..WORDS).find(|&at| self.words[at] != self.before[at]);
+        same("a word after open", differing, None)
     }
 
     /// Makes the words now and then something that is no venue record.

@@ -13,6 +13,8 @@ pub struct Counts {
     pub events: u64,
     pub differences: u64,
     sessions: [u64; Kind::COUNT],
+    opens: u64,
+    opens_refused: [u64; 17],
     accepted: u64,
     executions: u64,
     repricings: u64,
@@ -23,6 +25,14 @@ pub struct Counts {
 impl Counts {
     pub fn session(&mut self, kind: Kind) {
         self.sessions[kind as usize] += 1;
+    }
+
+    #[cfg(feature = "engine")]
+    pub fn open(&mut self, refusal: Option<Refusal>) {
+        match refusal {
+            None => self.opens += 1,
+            Some(refusal) => self.opens_refused[refusal as usize] += 1,
+        }
     }
 
     pub fn refuse(&mut self, refusal: Refusal) {
@@ -60,15 +70,23 @@ impl fmt::Display for Counts {
             "executions {} re-pricings {} most report bytes {}",
             self.executions, self.repricings, self.most_bytes
         )?;
-        write!(f, "refusals:")?;
-        for (number, count) in self.refusals.iter().enumerate() {
-            if *count > 0 {
-                write!(f, " {number}: {count}")?;
-            }
+        if self.opens > 0 {
+            write!(f, "opens {} refusals:", self.opens)?;
+            write_refusals(f, &self.opens_refused)?;
         }
-        writeln!(f)?;
+        write!(f, "refusals:")?;
+        write_refusals(f, &self.refusals)?;
         write!(f, "differences {}", self.differences)
     }
+}
+
+fn write_refusals(f: &mut fmt::Formatter, refusals: &[u64; 17]) -> fmt::Result {
+    for (number, count) in refusals.iter().enumerate() {
+        if *count > 0 {
+            write!(f, " {number}: {count}")?;
+        }
+    }
+    writeln!(f)
 }
 
 /// A report buffer that is full of noise before each event, so that a byte

@@ -56,10 +56,10 @@ const ORDER_WORDS: usize = 13;
 /// The words of a venue; a run may be longer.
 pub const VENUE_WORDS: usize = HEADER_WORDS + PLACES * ORDER_WORDS;
 
+// The calls of include/venue.h; a slice is a pointer and a length.
 extern "C" {
-    fn compare_open_answer(close: u32) -> u32;
-    fn compare_open_word(close: u32, at: usize) -> u32;
-    fn compare_apply(
+    fn venue_open(words: *mut u32, words_len: usize, close: u32) -> u32;
+    fn venue_apply(
         words: *mut u32,
         words_len: usize,
         record: *const u8,
@@ -67,22 +67,14 @@ extern "C" {
         reports: *mut u8,
         reports_len: usize,
     ) -> u32;
-    fn compare_record_check(bytes: *const u8, len: usize) -> u64;
-    fn compare_permitted_price(bid: u32) -> u32;
+    fn venue_record_check(bytes: *const u8, len: usize) -> u64;
+    fn venue_permitted_price(bid: u32) -> u32;
 }
 
 /// Makes the words a fresh venue. Answers as `apply`, with no reports.
 pub fn open(words: &mut [u32], close: u32) -> u32 {
-    // SAFETY: the functions take any numbers.
-    let answer = unsafe { compare_open_answer(close) };
-    if answer == 0 {
-        // The header; places that a venue doesn't use may hold anything.
-        for (at, word) in words.iter_mut().take(HEADER_WORDS).enumerate() {
-            // SAFETY: as above.
-            *word = unsafe { compare_open_word(close, at) };
-        }
-    }
-    answer
+    // SAFETY: pointer and length are those of a slice lent for the call.
+    unsafe { venue_open(words.as_mut_ptr(), words.len(), close) }
 }
 
 /// Reads a record at the front of the bytes and applies it. Answers refusal ×
@@ -90,7 +82,7 @@ pub fn open(words: &mut [u32], close: u32) -> u32 {
 pub fn apply(words: &mut [u32], record: &[u8], reports: &mut [u8]) -> u32 {
     // SAFETY: pointers and lengths are those of slices lent for the call.
     unsafe {
-        compare_apply(
+        venue_apply(
             words.as_mut_ptr(),
             words.len(),
             record.as_ptr(),
@@ -104,13 +96,13 @@ pub fn apply(words: &mut [u32], record: &[u8], reports: &mut [u8]) -> u32 {
 /// The byte count of the record at the front, 0 if it can't be read.
 pub fn record_check(bytes: &[u8]) -> u64 {
     // SAFETY: pointer and length are those of a slice lent for the call.
-    unsafe { compare_record_check(bytes.as_ptr(), bytes.len()) }
+    unsafe { venue_record_check(bytes.as_ptr(), bytes.len()) }
 }
 
 /// The permitted price of a bid, 0 if it isn't one.
 pub fn permitted_price(bid: u32) -> u32 {
     // SAFETY: the function takes any number.
-    unsafe { compare_permitted_price(bid) }
+    unsafe { venue_permitted_price(bid) }
 }
 
 /// The engine's answer that says the same as the model's.
@@ -130,6 +122,13 @@ fn header_of(venue: &Venue) -> [u32; HEADER_WORDS] {
     words[AT.last_id] = venue.last_id;
     words[AT.last_stamp] = venue.last_stamp;
     words[AT.accepted] = venue.accepted;
+    words
+}
+
+/// The words of a fresh venue: its header, and 0 in every place.
+pub fn fresh_words(venue: &Venue) -> Vec<u32> {
+    let mut words = vec![0; VENUE_WORDS];
+    words[..HEADER_WORDS].copy_from_slice(&header_of(venue));
     words
 }
 

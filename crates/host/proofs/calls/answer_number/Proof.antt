@@ -17,8 +17,8 @@ enum-known-answer c = search needs
 number-of-requires : tie.Need-number-of-requires
 number-of-requires c κs = search needs
 
-refused-requires : tie.Need-refused-requires
-refused-requires c κs = omega (arith, c .number-of .ensures, refusal-small (c .before .before .answer .given .0 .0))
+mul-result : tie.Need-mul-result
+mul-result c = omega (arith, c .number-of .ensures, refusal-small (c .before .before .answer .given .0 .0))
 
 enum-known-answer-2 : tie.Need-enum-known-answer-2
 enum-known-answer-2 c = search needs
@@ -28,9 +28,8 @@ cast-result c = let h = subst (λ (a : Answer). CountFits (outcomeOfAnswer a)) (
 
 returns : tie.Need-returns
 returns c =
-    c .refused .ensures
-    ∙ ap (λ (n : ℕ). hostAnswer (refuses n)) (c .before .number-of .ensures)
-    ∙ sym (ap (λ (a : Answer). hostAnswer (outcomeOfAnswer a)) (c .before .before .before .answer .given .1))
+    ap (λ (n : ℕ). hostAnswer (refuses n)) (c .number-of .ensures)
+    ∙ sym (ap (λ (a : Answer). hostAnswer (outcomeOfAnswer a)) (c .before .before .answer .given .1))
 
 returns-2 : tie.Need-returns-2
 returns-2 c = search needs
@@ -41,7 +40,7 @@ answer-number-spec =
     (tie.spec
     enum-known-answer
     number-of-requires
-    refused-requires
+    mul-result
     enum-known-answer-2
     cast-result
     returns

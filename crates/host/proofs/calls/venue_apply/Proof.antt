@@ -19,8 +19,8 @@ enum-known-refusal c = search needs
 read-number-of-requires : tie.Need-read-number-of-requires
 read-number-of-requires c κs = search needs
 
-refused-requires : tie.Need-refused-requires
-refused-requires c κs = omega (arith, c .read-number-of .ensures, read-refusal-small (c .before .before .refusal .given .0 .0))
+mul-result : tie.Need-mul-result
+mul-result c = omega (arith, c .read-number-of .ensures, read-refusal-small (c .before .before .refusal .given .0 .0))
 
 enum-known-event : tie.Need-enum-known-event
 enum-known-event c = search needs
@@ -33,8 +33,8 @@ apply-event-requires c κs =
 returns : tie.Need-returns
 returns c =
     apply-refused _ _ _
-    (sym (c .before .before .before .before .before .read-record .ensures) ∙ ap outcomeOfRecordRead (c .before .before .before .refusal .given .1))
-    (c .refused .ensures ∙ ap (λ (n : ℕ). hostAnswer (refuses n)) (c .before .read-number-of .ensures))
+    (sym (c .before .before .before .before .read-record .ensures) ∙ ap outcomeOfRecordRead (c .before .before .refusal .given .1))
+    (ap (λ (n : ℕ). hostAnswer (refuses n)) (c .read-number-of .ensures))
 
 same-length : tie.Need-same-length
 same-length c = search needs
@@ -54,7 +54,7 @@ venue-apply-spec =
     read-record-requires
     enum-known-refusal
     read-number-of-requires
-    refused-requires
+    mul-result
     enum-known-event
     apply-event-requires
     returns

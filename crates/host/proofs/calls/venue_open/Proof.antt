@@ -1,7 +1,7 @@
 -- A run that is too short, a close that isn't legal, and the copy of a fresh venue. Assumes nothing.
 use Prim.Native.Nat.{ℕ}
 use native.Mathlib.Omega.{arith}
-use mathlib.Core.Path.{ap, _∙_}
+use mathlib.Core.Path.{ap}
 use borrow.Author.Needs.{needs}
 use Rattle.numbers.specs.Answers.{refuses}
 use Rattle.host.specs.Host.{hostAnswer}
@@ -12,11 +12,11 @@ use Rattle.host.proofs.calls.venue_open.Tie as tie
 number-of-requires : tie.Need-number-of-requires
 number-of-requires c κs = search needs
 
-refused-requires : tie.Need-refused-requires
-refused-requires c κs = search needs
+mul-result : tie.Need-mul-result
+mul-result c = search needs
 
 returns : tie.Need-returns
-returns c = open-short _ _ (search needs) (c .refused .ensures ∙ ap (λ (n : ℕ). hostAnswer (refuses n)) (c .before .number-of .ensures))
+returns c = open-short _ _ (search needs) (ap (λ (n : ℕ). hostAnswer (refuses n)) (c .number-of .ensures))
 
 open-requires : tie.Need-open-requires
 open-requires c κs = search needs
@@ -27,8 +27,8 @@ enum-known-answer c = search needs
 number-of-requires-2 : tie.Need-number-of-requires-2
 number-of-requires-2 c κs = search needs
 
-refused-requires-2 : tie.Need-refused-requires-2
-refused-requires-2 c κs = omega (arith, c .number-of2 .ensures, refusal-small (c .before .before .answer .given .0 .0))
+mul-result-2 : tie.Need-mul-result-2
+mul-result-2 c = omega (arith, c .number-of2 .ensures, refusal-small (c .before .before .answer .given .0 .0))
 
 enum-told : tie.Need-enum-told
 enum-told c = search needs
@@ -40,7 +40,7 @@ copy-words-requires : tie.Need-copy-words-requires
 copy-words-requires c κs = omega (arith, opens-length (c .before .before .before .before .before .«open» .ensures))
 
 returns-2 : tie.Need-returns-2
-returns-2 c = open-refused _ (search needs) (c .before .before .before .before .before .«open» .ensures) (c .before .before .before .answer .given .1) (c .refused2 .ensures ∙ ap (λ (n : ℕ). hostAnswer (refuses n)) (c .before .number-of2 .ensures))
+returns-2 c = open-refused _ (search needs) (c .before .before .before .before .«open» .ensures) (c .before .before .answer .given .1) (ap (λ (n : ℕ). hostAnswer (refuses n)) (c .number-of2 .ensures))
 
 same-length : tie.Need-same-length
 same-length c = search needs
@@ -53,12 +53,12 @@ venue-open-spec =
     tie.close
     (tie.spec
     number-of-requires
-    refused-requires
+    mul-result
     returns
     open-requires
     enum-known-answer
     number-of-requires-2
-    refused-requires-2
+    mul-result-2
     enum-told
     slice-aggregate-copy-words
     copy-words-requires

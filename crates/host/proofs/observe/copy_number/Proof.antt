@@ -17,14 +17,14 @@ cast-result c = let h = subst (λ (a : CopyAnswer). CountFits (outcomeOfCopy a))
 enum-told : tie.Need-enum-told
 enum-told c = search needs
 
-refused-requires : tie.Need-refused-requires
-refused-requires c κs = search needs
+mul-result : tie.Need-mul-result
+mul-result c = search needs
 
 enum-told-2 : tie.Need-enum-told-2
 enum-told-2 c = search needs
 
-refused-requires-2 : tie.Need-refused-requires-2
-refused-requires-2 c κs = search needs
+mul-result-2 : tie.Need-mul-result-2
+mul-result-2 c = search needs
 
 returns : tie.Need-returns
 returns c = search needs
@@ -42,9 +42,9 @@ copy-number-spec =
     enum-known-answer
     cast-result
     enum-told
-    refused-requires
+    mul-result
     enum-told-2
-    refused-requires-2
+    mul-result-2
     returns
     returns-2
     returns-3)
