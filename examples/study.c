@@ -84,7 +84,7 @@ static void play(const char *what, int count, const uint32_t *numbers)
 
     char line[400] = "";
     const uint8_t *at = reports;
-    while (at < reports + venue_byte_count(answer)) {
+    while (at < reports + venue_count(answer)) {
         uint32_t kind, f[4];
         char text[100];
         at = get_number(at, &kind);

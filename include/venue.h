@@ -2,6 +2,7 @@
 #ifndef VENUE_H
 #define VENUE_H
 
+#include <stdbool.h>
 #include <stddef.h>
 #include <stdint.h>
 
@@ -9,7 +10,7 @@
 extern "C" {
 #endif
 
-/* A run of words or bytes is a pointer and a length, counted in words or bytes. Nobody else writes it during the call, and a run that the call
+/* A run of words, bytes or order records is a pointer and a length, counted in words, bytes or records. Nobody else writes it during the call, and a run that the call
    writes shares nothing with another. The pointer is never NULL, also where the length is 0. */
 
 /* The words of a venue. A longer run is a venue with further words behind it, which keep their content. Between the calls the words are the
@@ -19,13 +20,17 @@ extern "C" {
 /* The least length of a report buffer: the reports of an event always fit it. */
 #define VENUE_REPORT_BYTES 16384
 
-/* venue_open and venue_apply answer refusal * 65,536 + byte count. Refusal 0 is none; a refusal has the byte count 0. */
+/* The most orders that rest, so a run of this many records is enough for venue_copy_out. */
+#define VENUE_ORDERS 256
+
+/* venue_open, venue_apply, venue_copy_out and venue_watch answer refusal * 65,536 + count: of bytes or of records, 0 where there is nothing to
+   count. Refusal 0 is none; a refusal has the count 0. */
 static inline uint32_t venue_refusal(uint32_t answer)
 {
     return answer / 65536;
 }
 
-static inline uint32_t venue_byte_count(uint32_t answer)
+static inline uint32_t venue_count(uint32_t answer)
 {
     return answer % 65536;
 }
@@ -37,7 +42,7 @@ static inline uint32_t venue_byte_count(uint32_t answer)
 uint32_t venue_open(uint32_t *words, size_t words_length, uint32_t close);
 
 /* Applies the event whose record stands at the front of the bytes; bytes behind it don't matter. docs/EVENTS.md has the form of event records and
-   of reports. The event's reports stand at the front of the buffer afterwards, as many bytes as the byte count of the answer says; the bytes
+   of reports. The event's reports stand at the front of the buffer afterwards, as many bytes as the count of the answer says; the bytes
    behind them keep their content. A refusal changes no word and no byte. 9 to 12 come first, judged from the front of the record, then the others
    in this order:
     9  the record breaks off
@@ -63,6 +68,45 @@ uint64_t venue_record_check(const uint8_t *bytes, size_t length);
 /* The permitted price of a national best bid, in ten-thousandths of a dollar: the lowest price that a restricted short sale may have.
    0 on refusal: the number isn't a bid (3). A bid is 0 (no bid) or a legal price up to 99,999,900. */
 uint32_t venue_permitted_price(uint32_t bid);
+
+/* A resting order. The price is the present one, the shares those left. */
+struct venue_order {
+    uint32_t id;
+    uint32_t mark;      /* 0 buy, 1 long sell, 2 short, 3 short exempt */
+    uint32_t limit;     /* the price of its entry */
+    uint32_t shares;
+    uint32_t show;      /* 1 displayed, 0 not */
+    uint32_t life;      /* 0 day */
+    uint32_t slide;     /* 0 continuous, 1 once, 2 no more, 3 opt-out */
+    uint32_t stamp;
+    uint32_t price;
+    uint32_t entry_bid; /* the national bid at its entry */
+    bool adjusted;      /* priced above its limit by the restriction at its entry, or re-priced since */
+    bool used;          /* with slide once: re-priced to the larger of limit and entry bid */
+    bool clear;         /* the bid was 0 or below the present price when that price was given */
+};
+
+/* Copies the resting orders to the front of the run, in rising id, and answers how many there are; the records behind them keep their content.
+   Every bool of the run is true or false before the call. A refusal changes no record:
+   16  the words aren't a venue
+   14  the run has fewer records than orders rest */
+uint32_t venue_copy_out(const uint32_t *words, size_t words_length, struct venue_order *run, size_t run_length);
+
+/* The displayed shares at a present price in a run of order records, of buys where the side is 0, of sells where it is any other number. Mark 0
+   counts as a buy, 1 to 3 as a sell; any other mark, and any show but 1, counts as nothing. The records may hold anything.
+   UINT64_MAX on refusal: the run has over 256 records (15). */
+uint64_t venue_depth(const struct venue_order *run, size_t run_length, uint32_t price, uint32_t side);
+
+/* A host's own record of a close and the phase of the restriction under it: 0 off, 1 on since today, 2 on since yesterday. */
+struct venue_watch_record {
+    uint32_t close;
+    uint32_t phase;
+};
+
+/* A tape price: in phase 0, a price that is 10% or more below the close makes phase 1. Any close is taken, and any other phase stays.
+   The answer is 0, or a refusal, which leaves the record as it was:
+    3  the price isn't legal */
+uint32_t venue_watch(struct venue_watch_record *watch, uint32_t price);
 
 #ifdef __cplusplus
 }
