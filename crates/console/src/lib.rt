@@ -5,13 +5,13 @@ mod line;
 use engine::Answer;
 use engine::Event;
 use engine::OpenAnswer;
-use engine::RecordRead;
 use engine::apply;
 use engine::open;
-use engine::record;
 use engine::refusals;
 use numbers::NumberRead;
 use numbers::read;
+use records::RecordRead;
+use records::record;
 
 const HIGHEST_FIELD: u64 = 4_294_967_295;
 
@@ -59,7 +59,7 @@ fn play_records(words: &mut [u32], input: &[u8], from: usize, out: &mut [u8]) ->
     while next < input.len() {
         match record::read_record(input, next) {
             RecordRead::Refused(refusal) => {
-                return line::put_refusal(out, at, refusals::read_number_of(refusal));
+                return line::put_refusal(out, at, record::refusal_number(refusal));
             }
             RecordRead::Record { event, end } => {
                 at = play_event(words, event, reports, out, at);

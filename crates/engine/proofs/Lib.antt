@@ -14,8 +14,6 @@ pub mod ReachedLaws
 pub mod ReportWordLaws
 pub mod BoundLaws
 pub mod RecordLaws
-pub mod ReadingLaws
-pub mod RecordCalls
 pub mod RecordExamples
 pub mod CallLaws
 pub mod CopyLaws

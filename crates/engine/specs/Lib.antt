@@ -7,7 +7,6 @@ pub mod Sound
 pub mod Refusals
 pub mod Run
 pub mod Records
-pub mod RecordAnswers
 pub mod RoundTrips
 pub mod Reached
 pub mod Account

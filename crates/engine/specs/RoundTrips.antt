@@ -1,19 +1,13 @@
--- Round trips of event records and reports: of the definitions, and of the calls `read_record` and `write_record`. Assumes nothing.
+-- Round trips of event records and reports. Assumes nothing.
 use Prim.Native.Nat.{ℕ, _≤_}
 use mathlib.Core.Path.{_≡_}
 use mathlib.Core.List.{List}
 use mathlib.Core.Option.{some}
 use Rattle.numbers.specs.Tests.{All}
 use Rattle.numbers.specs.Answers.{Outcome, gives, Read}
-use Rattle.numbers.specs.SevenBit.{IsByte, Stands, Written}
-use Rattle.engine.specs.declared.Event.{Event}
-use Rattle.engine.specs.declared.RecordRead.{RecordRead}
-use Rattle.engine.specs.declared.RecordRead.the-variants.{Record}
-use Rattle.engine.specs.declared.RecordWrite.{RecordWrite}
-use Rattle.engine.specs.declared.RecordWrite.the-variants.{End}
+use Rattle.numbers.specs.SevenBit.{IsByte, Stands}
 use Rattle.engine.specs.Reports.{Report}
 use Rattle.engine.specs.Records.{recordNumbers, reportNumbers, recordBytes, reportBytes, reportsBytes, highestField, recordAt, reportAt, reportsUpTo}
-use Rattle.engine.specs.RecordAnswers.{outcomeOfRecordRead, outcomeOfRecordWrite}
 
 -- "each field a 32-bit whole number"
 abbrev pub Word : ℕ → Type 0
@@ -60,21 +54,3 @@ AllReportsReadBack = (bytes : List ℕ) (count : ℕ) (rs : List Report) → Rep
 
 abbrev pub AllReportsReadOnly : Type 0
 AllReportsReadOnly = (bytes : List ℕ) (count : ℕ) (rs : List Report) → All IsByte bytes → reportsUpTo bytes count ≡ some rs → ReportsStand bytes count rs
-
--- Of the calls: what `read_record` and `write_record` ensure of their arguments, their answer and the buffer after
-
-abbrev pub ReadCall : List ℕ → ℕ → RecordRead → Type 0
-ReadCall bytes at answer = outcomeOfRecordRead answer ≡ recordAt bytes at
-
-abbrev pub WriteCall : Event → List ℕ → ℕ → RecordWrite → List ℕ → Type 0
-WriteCall event before at answer after = Written (recordBytes event) at before (outcomeOfRecordWrite answer) after
-
--- what was written reads back as the same event and end
-abbrev pub WrittenReadsBack : Type 0
-WrittenReadsBack =
-    (event : Event) (before after : List ℕ) (at end : ℕ) (answer : RecordRead) → All Word (recordNumbers event) → WriteCall event before at (End end) after → ReadCall after at answer → answer ≡ Record event end
-
--- what was read is exactly what writing that event gives: the same end, and no byte is changed
-abbrev pub ReadIsWritten : Type 0
-ReadIsWritten =
-    (event : Event) (bytes after : List ℕ) (at end : ℕ) (answer : RecordWrite) → All IsByte bytes → ReadCall bytes at (Record event end) → WriteCall event bytes at answer after → (answer ≡ End end) × (after ≡ bytes)

@@ -6,7 +6,6 @@ pub mod header;
 pub mod leave;
 pub mod open;
 mod quote;
-pub mod record;
 pub mod refusals;
 pub mod refuse;
 pub mod report;
@@ -69,38 +68,6 @@ pub struct WorkingOrder {
 pub struct Passed {
     pub end: usize,
     pub stamp: u32,
-}
-
-// Why no event record stands at an offset: a byte is missing, a number is bad, the kind is none, or a field is above 32 bits.
-pub enum ReadRefusal {
-    MissingByte,
-    BadNumber,
-    UnknownKind,
-    FieldTooLarge,
-}
-
-// One field of an event record with the offset behind it, or the refusal.
-pub enum FieldRead {
-    Field { value: u32, end: usize },
-    Refused(ReadRefusal),
-}
-
-// The offset behind the fields that were read, or the refusal.
-pub enum FieldsRead {
-    End(usize),
-    Refused(ReadRefusal),
-}
-
-// What stands at an offset of a byte slice: an event with the offset behind its record, or the refusal.
-pub enum RecordRead {
-    Record { event: Event, end: usize },
-    Refused(ReadRefusal),
-}
-
-// What writing an event record answers: the offset behind it, or that it doesn't fit.
-pub enum RecordWrite {
-    End(usize),
-    NoRoom,
 }
 
 // Why open or an event is refused.

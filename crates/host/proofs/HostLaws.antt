@@ -19,15 +19,15 @@ use Rattle.book.specs.Words.{venueWords, isBook}
 use Rattle.engine.specs.declared.Event.{Event}
 use Rattle.engine.specs.declared.Refusal.{Refusal}
 use Rattle.engine.specs.declared.Refusal.the-variants.{BufferTooShort, EventsSpent, PriceNotLegal, SharesOutOfRange, CodeOutOfRange, IdNotNew, BookFull, NotResting, VenueBroken}
-use Rattle.engine.specs.declared.ReadRefusal.{ReadRefusal}
-use Rattle.engine.specs.declared.ReadRefusal.the-variants.{MissingByte, BadNumber, UnknownKind, FieldTooLarge}
+use Rattle.records.specs.declared.ReadRefusal.{ReadRefusal}
+use Rattle.records.specs.declared.ReadRefusal.the-variants.{MissingByte, BadNumber, UnknownKind, FieldTooLarge}
 use Rattle.engine.specs.declared.OpenAnswer.{OpenAnswer}
 use Rattle.engine.specs.declared.OpenAnswer.the-variants.{Fresh, NotOpened}
 use Rattle.engine.specs.Venue.{Venue, opened, opening}
 use Rattle.engine.specs.Run.{Step, stepUnless}
 use Rattle.engine.specs.Records.{recordNumbers, recordAt}
 use Rattle.engine.specs.RoundTrips.{Word}
-use Rattle.engine.specs.RecordAnswers.{readRefusalNumber}
+use Rattle.records.specs.RecordAnswers.{readRefusalNumber}
 use Rattle.engine.specs.Memory.{venueOf, refusalIn}
 use Rattle.engine.specs.Calls.{refusalNumber, openedWords, Opens, countOf, Applied}
 use Rattle.host.specs.Host.{hostAnswer, openCount, hostOpening, wordsOpened, HostOpened, CountFits, EventApplied, HostApplied, Demand3OfHosts, NoHostGets16, EqualHostReports}

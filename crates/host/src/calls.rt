@@ -3,14 +3,14 @@ use book::sound;
 use engine::Answer;
 use engine::Event;
 use engine::OpenAnswer;
-use engine::RecordRead;
 use engine::Refusal;
 use engine::apply;
 use engine::open;
-use engine::record;
 use engine::refusals;
 use prices::PriceAnswer;
 use prices::increments;
+use records::RecordRead;
+use records::record;
 ghost use mathlib.Core.Path.{_≡_};
 ghost use mathlib.Core.List.{_++_};
 ghost use Prim.Native.Nat.{_≤_};
@@ -82,7 +82,7 @@ pub extern "C" fn venue_apply(words: &mut [u32], record: &[u8], reports: &mut [u
     ensures { λ r. ⌜ HostApplied (now (words .entry)) (now («record» .entry)) (now (reports .entry)) r (now (words .exit)) (now (reports .exit)) ⌝ }
 {
     match record::read_record(record, 0) {
-        RecordRead::Refused(refusal) => refusals::read_number_of(refusal) * REFUSAL_UNIT,
+        RecordRead::Refused(refusal) => record::refusal_number(refusal) * REFUSAL_UNIT,
         RecordRead::Record { event, end: _ } => apply_event(words, event, reports),
     }
 }

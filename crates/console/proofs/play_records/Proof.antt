@@ -24,8 +24,8 @@ read-record-requires c κs = search needs
 enum-known-refusal : tie.Need-enum-known-refusal Inv-loop μ-loop
 enum-known-refusal c = search needs
 
-read-number-of-requires : tie.Need-read-number-of-requires Inv-loop μ-loop
-read-number-of-requires c κs = search needs
+refusal-number-requires : tie.Need-refusal-number-requires Inv-loop μ-loop
+refusal-number-requires c κs = search needs
 
 put-refusal-requires : tie.Need-put-refusal-requires Inv-loop μ-loop
 put-refusal-requires c κs = search needs
@@ -79,7 +79,7 @@ play-records-spec =
     loop-holds
     read-record-requires
     enum-known-refusal
-    read-number-of-requires
+    refusal-number-requires
     put-refusal-requires
     same-length
     same-length-2

@@ -4,7 +4,7 @@ use native.Mathlib.Omega.{arith}
 use mathlib.Core.Path.{sym, ap, _∙_}
 use borrow.Author.Needs.{needs}
 use Rattle.numbers.specs.Answers.{refuses}
-use Rattle.engine.specs.RecordAnswers.{outcomeOfRecordRead}
+use Rattle.records.specs.RecordAnswers.{outcomeOfRecordRead}
 use Rattle.host.specs.Host.{hostAnswer}
 use Rattle.host.proofs.HostLaws.{read-refusal-small, read-words, apply-refused, apply-read}
 use Rattle.host.proofs.calls.venue_apply.Statement.{statement}
@@ -16,11 +16,11 @@ read-record-requires c κs = search needs
 enum-known-refusal : tie.Need-enum-known-refusal
 enum-known-refusal c = search needs
 
-read-number-of-requires : tie.Need-read-number-of-requires
-read-number-of-requires c κs = search needs
+refusal-number-requires : tie.Need-refusal-number-requires
+refusal-number-requires c κs = search needs
 
 mul-result : tie.Need-mul-result
-mul-result c = omega (arith, c .read-number-of .ensures, read-refusal-small (c .before .before .refusal .given .0 .0))
+mul-result c = omega (arith, c .refusal-number .ensures, read-refusal-small (c .before .before .refusal .given .0 .0))
 
 enum-known-event : tie.Need-enum-known-event
 enum-known-event c = search needs
@@ -34,7 +34,7 @@ returns : tie.Need-returns
 returns c =
     apply-refused _ _ _
     (sym (c .before .before .before .before .read-record .ensures) ∙ ap outcomeOfRecordRead (c .before .before .refusal .given .1))
-    (ap (λ (n : ℕ). hostAnswer (refuses n)) (c .read-number-of .ensures))
+    (ap (λ (n : ℕ). hostAnswer (refuses n)) (c .refusal-number .ensures))
 
 same-length : tie.Need-same-length
 same-length c = search needs
@@ -53,7 +53,7 @@ venue-apply-spec =
     (tie.spec
     read-record-requires
     enum-known-refusal
-    read-number-of-requires
+    refusal-number-requires
     mul-result
     enum-known-event
     apply-event-requires

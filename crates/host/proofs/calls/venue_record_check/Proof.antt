@@ -1,6 +1,6 @@
 -- The end of the record that was read, and 0 for a refusal. Assumes nothing.
 use mathlib.Core.Path.{sym, ap, _∙_}
-use Rattle.engine.specs.RecordAnswers.{outcomeOfRecordRead}
+use Rattle.records.specs.RecordAnswers.{outcomeOfRecordRead}
 use Rattle.host.specs.Host.{endOrZero}
 use borrow.Author.Needs.{needs}
 use Rattle.host.proofs.calls.venue_record_check.Statement.{statement}

@@ -2,8 +2,8 @@
 use mathlib.Core.Path.{sym, ap}
 use Rattle.numbers.specs.SevenBit.{outcomeOfWrite}
 use borrow.Author.Needs.{needs}
-use Rattle.engine.proofs.record.record_answer.Statement.{statement}
-use Rattle.engine.proofs.record.record_answer.Tie as tie
+use Rattle.records.proofs.record.record_answer.Statement.{statement}
+use Rattle.records.proofs.record.record_answer.Tie as tie
 
 enum-known-answer : tie.Need-enum-known-answer
 enum-known-answer c = search needs

@@ -2,9 +2,9 @@
 use native.Mathlib.Omega.{arith}
 use borrow.Author.Tests.{ne-eqb}
 use Rattle.numbers.specs.Tests.{pick}
 use Rattle.engine.specs.Records.{eventOf}
-use Rattle.engine.proofs.record.single_event.Statement.{statement}
-use Rattle.engine.proofs.record.single_event.Tie as tie
+use Rattle.records.proofs.record.single_event.Statement.{statement}
+use Rattle.records.proofs.record.single_event.Tie as tie
 
 returns : tie.Need-returns
 unfolding eventOf pick

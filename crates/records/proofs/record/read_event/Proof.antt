@@ -2,10 +2,10 @@
 use native.Mathlib.Omega.{arith}
 use borrow.Author.Tests.{ne-eqb, le-leb, lt-leb}
 use Rattle.numbers.specs.Tests.{pick}
 use Rattle.engine.specs.Records.{recordFields}
 use borrow.Author.Needs.{needs}
-use Rattle.engine.proofs.record.read_event.Statement.{statement}
-use Rattle.engine.proofs.record.read_event.Tie as tie
+use Rattle.records.proofs.record.read_event.Statement.{statement}
+use Rattle.records.proofs.record.read_event.Tie as tie
 
 read-entry-requires : tie.Need-read-entry-requires
 read-entry-requires c κs = search needs

@@ -1,10 +1,10 @@
 -- The number at the offset is the kind, and its event is what stands there. Assumes nothing.
 use mathlib.Core.Path.{sym, ap, _∙_}
 use Rattle.numbers.specs.SevenBit.{outcomeOfRead}
 use Rattle.engine.specs.Records.{byKind, formAt, recordAt}
 use borrow.Author.Needs.{needs}
-use Rattle.engine.proofs.record.read_record.Statement.{statement}
-use Rattle.engine.proofs.record.read_record.Tie as tie
+use Rattle.records.proofs.record.read_record.Statement.{statement}
+use Rattle.records.proofs.record.read_record.Tie as tie
 
 read-number-requires : tie.Need-read-number-requires
 read-number-requires c κs = search needs

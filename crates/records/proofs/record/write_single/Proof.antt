@@ -1,7 +1,7 @@
 -- The numbers written are the kind and the field. Assumes nothing.
 use borrow.Author.Needs.{needs}
-use Rattle.engine.proofs.record.write_single.Statement.{statement}
-use Rattle.engine.proofs.record.write_single.Tie as tie
+use Rattle.records.proofs.record.write_single.Statement.{statement}
+use Rattle.records.proofs.record.write_single.Tie as tie
 
 slice-aggregate-write-numbers : tie.Need-slice-aggregate-write-numbers
 slice-aggregate-write-numbers c = search needs

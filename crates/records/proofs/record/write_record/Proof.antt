@@ -1,8 +1,8 @@
 -- Each kind of event is written as its record. Assumes nothing.
 use Rattle.engine.specs.Records.{recordBytes}
 use borrow.Author.Needs.{needs}
-use Rattle.engine.proofs.record.write_record.Statement.{statement}
-use Rattle.engine.proofs.record.write_record.Tie as tie
+use Rattle.records.proofs.record.write_record.Statement.{statement}
+use Rattle.records.proofs.record.write_record.Tie as tie
 
 enum-known-event : tie.Need-enum-known-event
 enum-known-event c = search needs

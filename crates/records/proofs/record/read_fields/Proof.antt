@@ -4,10 +4,10 @@ use native.Mathlib.Omega.{arith}
 use mathlib.Core.Path.{sym, ap, _∙_}
 use lib.ListN.{length}
 use borrow.Author.Needs.{needs}
-use Rattle.engine.specs.RecordAnswers.{outcomeOfField}
-use Rattle.engine.proofs.ReadingLaws.{FieldsSoFar, none-so-far, one-refused, one-so-far, all-so-far}
-use Rattle.engine.proofs.record.read_fields.Statement.{statement}
-use Rattle.engine.proofs.record.read_fields.Tie as tie
+use Rattle.records.specs.RecordAnswers.{outcomeOfField}
+use Rattle.records.proofs.ReadingLaws.{FieldsSoFar, none-so-far, one-refused, one-so-far, all-so-far}
+use Rattle.records.proofs.record.read_fields.Statement.{statement}
+use Rattle.records.proofs.record.read_fields.Tie as tie
 
 abbrev Inv-loop : tie.InvT-loop
 Inv-loop bytes at fields₀ end₀ i₀ fields end i = FieldsSoFar bytes at (length fields₀) fields i end

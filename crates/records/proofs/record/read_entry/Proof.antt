@@ -1,11 +1,11 @@
 -- The entry of the seven fields that were read, or their refusal. Assumes nothing.
 use mathlib.Core.Path.{sym, ap, _∙_}
 use Rattle.numbers.specs.Tests.{pick}
 use Rattle.engine.specs.Records.{eventOf, eventFrom}
-use Rattle.engine.specs.RecordAnswers.{outcomeOfFields}
+use Rattle.records.specs.RecordAnswers.{outcomeOfFields}
 use borrow.Author.Needs.{needs}
-use Rattle.engine.proofs.record.read_entry.Statement.{statement}
-use Rattle.engine.proofs.record.read_entry.Tie as tie
+use Rattle.records.proofs.record.read_entry.Statement.{statement}
+use Rattle.records.proofs.record.read_entry.Tie as tie
 
 slice-aggregate-read-fields : tie.Need-slice-aggregate-read-fields
 slice-aggregate-read-fields c = search needs

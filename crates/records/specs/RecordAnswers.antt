@@ -3,17 +3,17 @@
 use Prim.Native.Nat.{ℕ}
 use mathlib.Core.List.{List, [], _∷_}
 use Rattle.numbers.specs.Answers.{Outcome, gives, refuses, Read}
 use Rattle.engine.specs.declared.Event.{Event}
-use Rattle.engine.specs.declared.ReadRefusal.{ReadRefusal}
-use Rattle.engine.specs.declared.ReadRefusal.the-variants.{MissingByte, BadNumber, UnknownKind, FieldTooLarge}
-use Rattle.engine.specs.declared.FieldRead.{FieldRead}
-use Rattle.engine.specs.declared.FieldRead.the-variants.{Field, Refused as fieldRefused}
-use Rattle.engine.specs.declared.FieldsRead.{FieldsRead}
-use Rattle.engine.specs.declared.FieldsRead.the-variants.{End as fieldsEnd, Refused as fieldsRefused}
-use Rattle.engine.specs.declared.RecordRead.{RecordRead}
-use Rattle.engine.specs.declared.RecordRead.the-variants.{Record, Refused}
-use Rattle.engine.specs.declared.RecordWrite.{RecordWrite}
-use Rattle.engine.specs.declared.RecordWrite.the-variants.{End, NoRoom}
+use Rattle.records.specs.declared.ReadRefusal.{ReadRefusal}
+use Rattle.records.specs.declared.ReadRefusal.the-variants.{MissingByte, BadNumber, UnknownKind, FieldTooLarge}
+use Rattle.records.specs.declared.FieldRead.{FieldRead}
+use Rattle.records.specs.declared.FieldRead.the-variants.{Field, Refused as fieldRefused}
+use Rattle.records.specs.declared.FieldsRead.{FieldsRead}
+use Rattle.records.specs.declared.FieldsRead.the-variants.{End as fieldsEnd, Refused as fieldsRefused}
+use Rattle.records.specs.declared.RecordRead.{RecordRead}
+use Rattle.records.specs.declared.RecordRead.the-variants.{Record, Refused}
+use Rattle.records.specs.declared.RecordWrite.{RecordWrite}
+use Rattle.records.specs.declared.RecordWrite.the-variants.{End, NoRoom}
 
 abbrev pub readRefusalNumber : ReadRefusal → ℕ
 readRefusalNumber MissingByte = 9

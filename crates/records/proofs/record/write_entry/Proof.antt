@@ -1,8 +1,8 @@
 -- The numbers written are those of the entry's record. Assumes nothing.
 use Rattle.engine.specs.Records.{recordBytes}
 use borrow.Author.Needs.{needs}
-use Rattle.engine.proofs.record.write_entry.Statement.{statement}
-use Rattle.engine.proofs.record.write_entry.Tie as tie
+use Rattle.records.proofs.record.write_entry.Statement.{statement}
+use Rattle.records.proofs.record.write_entry.Tie as tie
 
 cast-t5 : tie.Need-cast-t5
 cast-t5 c = search needs

@@ -1,11 +1,11 @@
 // Event records as bytes: reading and writing one at an offset.
-use crate::Entry;
-use crate::Event;
 use crate::FieldRead;
 use crate::FieldsRead;
 use crate::ReadRefusal;
 use crate::RecordRead;
 use crate::RecordWrite;
+use engine::Entry;
+use engine::Event;
 use numbers::NumberRead;
 use numbers::NumberWrite;
 use numbers::read;
@@ -15,9 +15,9 @@ ghost use mathlib.Core.List.{[], _∷_};
 ghost use Prim.Native.Nat.{_<_};
 ghost use lib.ListN.{length};
 ghost use Rattle.numbers.specs.SevenBit.{bytesOfAll, Written, outcomeOfWrite};
 ghost use Rattle.engine.specs.declared.Event.the-variants.{Entry as entry};
 ghost use Rattle.engine.specs.Records.{recordBytes, fieldsAt, byCount, recordFields, eventOf, readAs, eventFrom, recordAt};
-ghost use Rattle.engine.specs.RecordAnswers.{outcomeOfField, outcomeOfFields, outcomeOfRecordRead, outcomeOfRecordWrite};
+ghost use Rattle.records.specs.RecordAnswers.{readRefusalNumber, outcomeOfField, outcomeOfFields, outcomeOfRecordRead, outcomeOfRecordWrite};
 
 // The highest value of a field.
 const HIGHEST_FIELD: u64 = 4_294_967_295;
@@ -188,5 +188,17 @@ pub fn write_record(bytes: &mut [u8], at: usize, event: Event) -> RecordWrite
         Event::Bid(price) => write_single(bytes, at, 3, price),
         Event::Tape(price) => write_single(bytes, at, 4, price),
         Event::DayEnd(close) => write_single(bytes, at, 5, close),
+    }
+}
+
+// Document 01's numbers of the refusals of reading.
+pub fn refusal_number(refusal: ReadRefusal) -> u32
+    ensures { λ r. ⌜ r ≡ readRefusalNumber refusal ⌝ }
+{
+    match refusal {
+        ReadRefusal::MissingByte => 9,
+        ReadRefusal::BadNumber => 10,
+        ReadRefusal::UnknownKind => 11,
+        ReadRefusal::FieldTooLarge => 12,
     }
 }

@@ -1,10 +1,10 @@
 -- The event of the field that was read, or its refusal. Assumes nothing.
 use mathlib.Core.Path.{sym, ap, _∙_}
 use Rattle.engine.specs.Records.{eventFrom}
-use Rattle.engine.specs.RecordAnswers.{outcomeOfField}
+use Rattle.records.specs.RecordAnswers.{outcomeOfField}
 use borrow.Author.Needs.{needs}
-use Rattle.engine.proofs.record.read_single.Statement.{statement}
-use Rattle.engine.proofs.record.read_single.Tie as tie
+use Rattle.records.proofs.record.read_single.Statement.{statement}
+use Rattle.records.proofs.record.read_single.Tie as tie
 
 read-field-requires : tie.Need-read-field-requires
 read-field-requires c κs = search needs

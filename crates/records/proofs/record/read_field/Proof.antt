@@ -2,10 +2,10 @@
 use native.Mathlib.Omega.{arith}
 use mathlib.Core.Path.{sym, ap, _∙_}
 use Rattle.numbers.specs.SevenBit.{outcomeOfRead}
-use Rattle.engine.proofs.ReadingLaws.{field-refused, field-above, field-given}
+use Rattle.records.proofs.ReadingLaws.{field-refused, field-above, field-given}
 use borrow.Author.Needs.{needs}
-use Rattle.engine.proofs.record.read_field.Statement.{statement}
-use Rattle.engine.proofs.record.read_field.Tie as tie
+use Rattle.records.proofs.record.read_field.Statement.{statement}
+use Rattle.records.proofs.record.read_field.Tie as tie
 
 read-number-requires : tie.Need-read-number-requires
 read-number-requires c κs = search needs

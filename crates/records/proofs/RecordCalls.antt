@@ -10,14 +10,14 @@ use Rattle.numbers.specs.Answers.{Outcome, gives, Read}
 use Rattle.numbers.specs.SevenBit.{Stands, overwrite, Written}
 use Rattle.numbers.proofs.PlaceLaws.{stands-same}
 use Rattle.numbers.proofs.WriteLaws.{written-stands}
 use Rattle.engine.specs.declared.Event.{Event}
-use Rattle.engine.specs.declared.RecordRead.{RecordRead}
-use Rattle.engine.specs.declared.RecordRead.the-variants.{Record, Refused}
-use Rattle.engine.specs.declared.RecordWrite.{RecordWrite}
-use Rattle.engine.specs.declared.RecordWrite.the-variants.{End, NoRoom}
-use Rattle.engine.specs.RecordAnswers.{outcomeOfRecordRead, outcomeOfRecordWrite}
-use Rattle.engine.specs.RoundTrips.{WrittenReadsBack, ReadIsWritten}
+use Rattle.records.specs.declared.RecordRead.{RecordRead}
+use Rattle.records.specs.declared.RecordRead.the-variants.{Record, Refused}
+use Rattle.records.specs.declared.RecordWrite.{RecordWrite}
+use Rattle.records.specs.declared.RecordWrite.the-variants.{End, NoRoom}
+use Rattle.records.specs.RecordAnswers.{outcomeOfRecordRead, outcomeOfRecordWrite}
+use Rattle.records.specs.RecordTrips.{WrittenReadsBack, ReadIsWritten}
 use Rattle.engine.proofs.RecordLaws.{given, not-given, record-read-back, record-unique}
 
 -- an answer by its outcome
 

@@ -1,0 +1,3 @@
+-- Laws that hosts and programs cite.
+pub mod ReadingLaws
+pub mod RecordCalls

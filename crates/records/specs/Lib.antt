@@ -1,0 +1,2 @@
+pub mod RecordAnswers
+pub mod RecordTrips
