@@ -66,6 +66,19 @@ pub fn find(w: &[u32], id: u32) -> Position
     Position::Absent
 }
 
+// The same, for an order that likely stands at a position.
+pub fn find_near(w: &[u32], id: u32, near: usize) -> Position
+    requires { ⌜ Book (now w) × T (idsRise 0 (resting (now w))) ⌝ }
+    ensures { λ r. ⌜ Found (resting (now (w .entry))) r (Orders.find id (resting (now (w .entry)))) ⌝ }
+{
+    if near < words::count(w) {
+        if id_at(w, near) == id {
+            return Position::At(near);
+        }
+    }
+    find(w, id)
+}
+
 // The first order with a greater id.
 pub fn first_above(w: &[u32], id: u32) -> Position
     requires { ⌜ Book (now w) × T (idsRise 0 (resting (now w))) ⌝ }

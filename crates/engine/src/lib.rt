@@ -65,10 +65,11 @@ pub struct WorkingOrder {
     pub end: usize,
 }
 
-// The offset behind the reports of the pass, or of a part of it, and the last stamp.
+// The offset behind the reports of the pass, or of a part of it, the last stamp, and where the next order likely stands.
 pub struct Passed {
     pub end: usize,
     pub stamp: u32,
+    pub next: usize,
 }
 
 // Why no event record stands at an offset: a byte is missing, a number is bad, the kind is none, or a field is above 32 bits.

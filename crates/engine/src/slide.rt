@@ -151,27 +151,51 @@ fn make_move(
     ensures { λ r. ⌜ DoesEffect (now (w .entry)) (now (w .exit)) (now (reports .entry)) (now (reports .exit)) at (afterMove made o (resting (now (w .entry))) stamp) (r .end) (r .stamp) ⌝ }
 {
     match made {
-        Move::Stay => Passed { end: at, stamp },
+        Move::Stay => Passed {
+            end: at,
+            stamp,
+            next: i + 1,
+        },
         Move::Cancel => {
             let end = report::write_cancelled(reports, at, o.id, o.shares, working::OPT_OUT);
             place::remove(w, i);
-            Passed { end, stamp }
+            Passed {
+                end,
+                stamp,
+                next: i,
+            }
         },
         Move::Reprice(price, used) => {
             let next = stamp + 1;
             let end = reprice(w, reports, at, i, at_new_price(price, next, used, o));
-            Passed { end, stamp: next }
+            Passed {
+                end,
+                stamp: next,
+                next: i + 1,
+            }
         },
     }
 }
 
-// The turn of the order with an id; one that no longer rests is skipped.
-fn turn(w: &mut [u32], reports: &mut [u8], at: usize, m: Market, id: u32, stamp: u32) -> Passed
+// The turn of the order with an id, which likely stands at a position; one that no longer rests is skipped.
+fn turn(
+    w: &mut [u32],
+    reports: &mut [u8],
+    at: usize,
+    m: Market,
+    id: u32,
+    near: usize,
+    stamp: u32,
+) -> Passed
     requires { ⌜ Ordered (now w) × T (isBid (m .bid)) × (stamp < 4294967295) × Room (now reports) at (turnOf m id (resting (now w)) stamp .reports) ⌝ }
     ensures { λ r. ⌜ DoesEffect (now (w .entry)) (now (w .exit)) (now (reports .entry)) (now (reports .exit)) at (turnOf m id (resting (now (w .entry))) stamp) (r .end) (r .stamp) ⌝ }
 {
-    let Position::At(i) = search::find(w, id) else {
-        return Passed { end: at, stamp };
+    let Position::At(i) = search::find_near(w, id, near) else {
+        return Passed {
+            end: at,
+            stamp,
+            next: near,
+        };
     };
     let o = words::load(w, i);
     let made = move_in_pass(m, o);
@@ -202,12 +226,18 @@ pub(crate) fn pass(w: &mut [u32], reports: &mut [u8], at: usize, m: Market, stam
     let ids = resting_ids(w);
     let mut end = at;
     let mut last = stamp;
+    let mut near = 0;
     let mut i = 0;
     while i < count {
-        let turned = turn(w, reports, end, m, ids[i], last);
+        let turned = turn(w, reports, end, m, ids[i], near, last);
         end = turned.end;
         last = turned.stamp;
+        near = turned.next;
         i += 1;
     }
-    Passed { end, stamp: last }
+    Passed {
+        end,
+        stamp: last,
+        next: near,
+    }
 }

@@ -12,11 +12,11 @@ use Rattle.engine.proofs.slide.pass.Statement.{statement}
 use Rattle.engine.proofs.slide.pass.Tie as tie
 
 abbrev Inv-loop : tie.InvT-loop
-Inv-loop w₀ reports₀ at m stamp count ids end₀ last₀ i₀ w reports end last i =
+Inv-loop w₀ reports₀ at m stamp count ids end₀ last₀ near₀ i₀ w reports end last near i =
     Passing w₀ w reports₀ reports at end m (idsOf (resting w₀)) (drop i (idsOf (resting w₀))) stamp last × (i ≤ count) × (last ≤ stamp + i)
 
 abbrev μ-loop : tie.MeasureT-loop
-μ-loop w₀ reports₀ at m stamp count ids end₀ last₀ i₀ w reports end last i = count - i
+μ-loop w₀ reports₀ at m stamp count ids end₀ last₀ near₀ i₀ w reports end last near i = count - i
 
 -- the ids still to come start with the one of this turn, which was copied at the start
 below : (c : tie.After-turn-arg2 Inv-loop μ-loop) → c .before .before .before .loop .i < length (resting (c .before .before .before .before .before .before .before .before .before .before .args .w .now))
