@@ -9,6 +9,7 @@ use book::Position;
 use book::place;
 use book::search;
 use book::words;
+use prices::restriction;
 ghost use mathlib.Core.Path.{_≡_};
 ghost use Prim.Native.Nat.{_+_, _<_};
 ghost use mathlib.Core.Bool.{_&&_, not};
@@ -217,11 +218,18 @@ fn resting_ids(w: &[u32]) -> [u32; 256]
     ids
 }
 
-// The pass over the orders then resting.
+// The pass over the orders then resting; none is restricted while the restriction is off.
 pub(crate) fn pass(w: &mut [u32], reports: &mut [u8], at: usize, m: Market, stamp: u32) -> Passed
     requires { ⌜ Ordered (now w) × T (isBid (m .bid)) × (stamp + 256 < 4294967296) × Room (now reports) at (passOver m (idsOf (resting (now w))) (resting (now w)) stamp .reports) ⌝ }
     ensures { λ r. ⌜ DoesEffect (now (w .entry)) (now (w .exit)) (now (reports .entry)) (now (reports .exit)) at (passOver m (idsOf (resting (now (w .entry)))) (resting (now (w .entry))) stamp) (r .end) (r .stamp) ⌝ }
 {
+    if !restriction::restriction_on(m.phase) {
+        return Passed {
+            end: at,
+            stamp,
+            next: 0,
+        };
+    }
     let count = words::count(w);
     let ids = resting_ids(w);
     let mut end = at;
