@@ -3,11 +3,11 @@ use Prim.Native.Nat.{ℕ, suc, _+_, _%_, _≤_, _<_, max}
 use native.Mathlib.Omega.{arith}
 use native.Mathlib.Decide.{decLe, decLt}
 use mathlib.Core.Path.{_≡_}
-use mathlib.Core.Bool.{_&&_, _||_}
+use mathlib.Core.Bool.{false, _&&_, _||_}
 use mathlib.Core.Logic.{_⊎_, inl, inr}
 use lib.Dec.{T, leb, ltb, eqb, leb→le, le→leb, eqb→eq}
 use Rattle.prices.specs.Prices.{highest, dollarBorder, step, highestBid, legal, isBid, permitted}
-use Rattle.numbers.proofs.TestLaws.{by-test, and-T, T-and, or-T, T-inl, T-inr, eq→T, tests}
+use Rattle.numbers.proofs.TestLaws.{by-test, bool-ext, and-T, T-and, or-T, T-inl, T-inr, eq→T, tests}
 
 -- what the test of a legal price says
 
@@ -55,6 +55,30 @@ bid-out b t = go (or-T (eqb b 0) (legal b && leb b highestBid) t)
     go : T (eqb b 0) ⊎ T (legal b && leb b highestBid) → (b ≡ 0) ⊎ (Legal b × (b ≤ highestBid))
     go (inl x) = inl (eqb→eq b 0 x)
     go (inr x) = let r = and-T (legal b) (leb b highestBid) x in inr (legal-out b (r .0), leb→le b highestBid (r .1))
+
+pub bid-within : (b : ℕ) → b ≤ highestBid → (ltb b dollarBorder || eqb (b % step) 0) ≡ isBid b
+unfolding isBid legal
+bid-within b h = bool-ext _ _ (λ t. into (decLe 1 b) t) (λ t. out (bid-out b t))
+  where
+    into : Dec (1 ≤ b) → T (ltb b dollarBorder || eqb (b % step) 0) → T (eqb b 0 || (legal b && leb b highestBid))
+    into (yes l) t =
+        T-inr (eqb b 0) _ (T-and (legal b) _ (T-and (leb 1 b) _ (le→leb 1 b l) (T-and (leb b highest) _ (le→leb b highest (omega arith)) t)) (le→leb b highestBid h))
+    into (no l) t = let z : b ≡ 0 = omega arith in T-inl (eqb b 0) _ (eq→T z)
+
+    out : (b ≡ 0) ⊎ (Legal b × (b ≤ highestBid)) → T (ltb b dollarBorder || eqb (b % step) 0)
+    out (inl z) = T-inl (ltb b dollarBorder) _ (le→leb (suc b) dollarBorder (omega arith))
+    out (inr l) = on (l .0 .onStep)
+      where
+        on : (b < dollarBorder) ⊎ (b % step ≡ 0) → T (ltb b dollarBorder || eqb (b % step) 0)
+        on (inl x) = T-inl (ltb b dollarBorder) _ (le→leb (suc b) dollarBorder x)
+        on (inr x) = T-inr (ltb b dollarBorder) (eqb (b % step) 0) (eq→T x)
+
+pub bid-beyond : (b : ℕ) → highestBid < b → false ≡ isBid b
+bid-beyond b h = bool-ext _ _ (λ t. absurd t) (λ t. absurd (out (bid-out b t)))
+  where
+    out : (b ≡ 0) ⊎ (Legal b × (b ≤ highestBid)) → ⊥
+    out (inl z) = omega arith
+    out (inr l) = omega (arith, l .1)
 
 pub no-bid : T (isBid 0)
 unfolding isBid
