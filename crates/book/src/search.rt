@@ -18,19 +18,21 @@ pub fn id_at(w: &[u32], i: usize) -> u32
     words::word_at(w, i, words::ID)
 }
 
-// How many orders stand before the first with a greater id: a binary search.
+// How many orders stand before the first with a greater id: a binary search among the size orders from low on.
 pub(crate) fn rank(w: &[u32], id: u32) -> usize
     requires { ⌜ Book (now w) × T (idsRise 0 (resting (now w))) ⌝ }
     ensures { λ r. ⌜ r ≡ rankOf id (resting (now (w .entry))) ⌝ }
 {
     let mut low = 0;
-    let mut high = words::count(w);
-    while low < high {
-        let middle = low + (high - low) / 2;
+    let mut size = words::count(w);
+    while size > 0 {
+        let half = size / 2;
+        let middle = low + half;
         if id_at(w, middle) <= id {
             low = middle + 1;
+            size = size - half - 1;
         } else {
-            high = middle;
+            size = half;
         }
     }
     low
