@@ -2,10 +2,8 @@
 use crate::Price;
 use crate::PriceAnswer;
 ghost use mathlib.Core.Path.{_≡_};
-ghost use Prim.Native.Nat.{_%_, _≤_};
-ghost use mathlib.Core.Bool.{_||_};
-ghost use lib.Dec.{ltb, eqb};
-ghost use Rattle.prices.specs.Prices.{dollarBorder, step, legal, isBid, permitted, highestBid, priceOf, permittedOf, outcomeOfPrice};
+ghost use Prim.Native.Nat.{_≤_};
+ghost use Rattle.prices.specs.Prices.{legal, isBid, permitted, highestBid, priceOf, permittedOf, outcomeOfPrice};
 
 impl Price {
     // The highest price, and the price of one dollar, from which on prices are whole cents.
@@ -28,36 +26,29 @@ const STEP: u32 = 100;
 
 const HIGHEST_BID: u32 = 99_999_900;
 
-// Whether a number is below the dollar border, or a whole number of cents.
-fn on_increment(value: u32) -> bool
-    ensures { λ r. ⌜ r ≡ (ltb value dollarBorder || eqb (value % step) 0) ⌝ }
+pub fn is_legal(value: u32) -> bool
+    ensures { λ r. ⌜ r ≡ legal value ⌝ }
 {
+    if value > Price::HIGHEST {
+        return false;
+    }
     if value % STEP == 0 {
-        return true;
+        return value >= 1;
     }
     value < Price::DOLLAR_BORDER
 }
 
-pub fn is_legal(value: u32) -> bool
-    ensures { λ r. ⌜ r ≡ legal value ⌝ }
-{
-    if value < 1 {
-        return false;
-    }
-    if value > Price::HIGHEST {
-        return false;
-    }
-    on_increment(value)
-}
-
-// No bid, 0, is a whole number of cents too.
+// No bid, 0, is a whole number of steps too.
 pub fn is_bid(value: u32) -> bool
     ensures { λ r. ⌜ r ≡ isBid value ⌝ }
 {
-    if value <= HIGHEST_BID {
-        return on_increment(value);
+    if value > HIGHEST_BID {
+        return false;
     }
-    false
+    if value % STEP == 0 {
+        return true;
+    }
+    value < Price::DOLLAR_BORDER
 }
 
 // The lowest legal price above a bid.
