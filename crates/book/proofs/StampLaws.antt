@@ -116,5 +116,5 @@ chains-more w heads links n s b last c es eb el hb hn h256 =
           λ j hj. by-order j n (λ l. getD-set-other links n j last 0 (λ z. omega arith) ∙ c .linked j l) (λ l. let z : j ≡ n = omega arith in rw z (getD-set-same links n last 0 hn ∙ el ∙ c .lasts b (omega arith) ∙ ap (λ (x : ℕ). lastIn w x n) (sym e)));
     }
 
-pub idBefore-at : (w : List ℕ) (i : ℕ) → 0 < i → idBefore w i ≡ word w (i - 1) 0
-idBefore-at w i h = let e : i ≡ suc (i - 1) = omega arith in ap (idBefore w) e
+pub idBefore-next : (w : List ℕ) (i : ℕ) → word w i 0 ≡ idBefore w (i + 1)
+idBefore-next w i = rw add-one refl

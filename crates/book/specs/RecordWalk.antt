@@ -16,8 +16,8 @@ use Rattle.book.specs.Words.{word, orderAt, flagsAt}
 unfoldable pub fromOne : ℕ → ℕ → Bool
 fromOne x highest = leb 1 x && leb x highest
 
-unfoldable pub codesSound : ℕ → ℕ → ℕ → ℕ → Bool
-codesSound mark show life slide = leb mark 3 && (leb show 1 && (eqb life 0 && slideAllowed mark slide))
+unfoldable pub codesSound : ℕ → ℕ → ℕ → Bool
+codesSound mark life slide = eqb life 0 && (leb mark 3 && slideAllowed mark slide)
 
 unfoldable pub pricesSound : ℕ → ℕ → ℕ → Bool
 pricesSound limit price bid = legal limit && (legal price && isBid bid)
@@ -48,6 +48,10 @@ Linked w links n = (j : ℕ) → j < n → getD links j 0 ≡ lastIn w (bucketOf
 abbrev pub idBefore : List ℕ → ℕ → ℕ
 idBefore w zero = 0
 idBefore w (suc i) = word w i 0
+
+-- show and the three flags of place i are each 0 or 1
+unfoldable pub bitsAt : List ℕ → ℕ → Bool
+bitsAt w i = leb (word w i 4) 1 && flagsAt w i
 
 -- place i by itself and beside the place before it
 unfoldable pub soundAt : ℕ → ℕ → List ℕ → ℕ → Bool

@@ -12,27 +12,27 @@ ghost use Rattle.book.specs.Words.{emptyOrder, resting, Book, Holds};
 ghost use Rattle.book.specs.WordSteps.{ShiftedDown, ShiftedUp};
 ghost use Rattle.book.specs.Positions.{removeAt, insertAt};
 
-// Moves the words between two indexes, and the thirteen behind them, down by thirteen words.
-fn shift_down(w: &mut [u32], from: usize, to: usize)
-    requires { ⌜ (from ≤ to) × (to + 13 ≤ length (now w)) ⌝ }
-    ensures { λ _. ⌜ ShiftedDown (now (w .entry)) (now (w .exit)) from to ⌝ }
+// Moves n words, behind the first thirteen, down by thirteen. The words start at index 0, so that the compiler makes it one move.
+fn shift_down(s: &mut [u32], n: usize)
+    requires { ⌜ n + 13 ≤ length (now s) ⌝ }
+    ensures { λ _. ⌜ ShiftedDown (now (s .entry)) (now (s .exit)) 0 n ⌝ }
 {
-    let mut j = from;
-    while j < to {
-        w[j] = w[j + 13];
+    let mut j = 0;
+    while j < n {
+        s[j] = s[j + 13];
         j += 1;
     }
 }
 
-// Moves the words between two indexes up by thirteen words.
-fn shift_up(w: &mut [u32], from: usize, to: usize)
-    requires { ⌜ (from ≤ to) × (to + 13 ≤ length (now w)) ⌝ }
-    ensures { λ _. ⌜ ShiftedUp (now (w .entry)) (now (w .exit)) from to ⌝ }
+// Moves the first n words up by thirteen.
+fn shift_up(s: &mut [u32], n: usize)
+    requires { ⌜ n + 13 ≤ length (now s) ⌝ }
+    ensures { λ _. ⌜ ShiftedUp (now (s .entry)) (now (s .exit)) 0 n ⌝ }
 {
-    let mut j = to;
-    while j > from {
+    let mut j = n;
+    while j > 0 {
         j -= 1;
-        w[j + 13] = w[j];
+        s[j + 13] = s[j];
     }
 }
 
@@ -42,7 +42,9 @@ pub(crate) fn remove_at(w: &mut [u32], i: usize)
     ensures { λ _. ⌜ Holds (now (w .entry)) (now (w .exit)) (removeAt i (resting (now (w .entry)))) ⌝ }
 {
     let last = words::count(w) - 1;
-    shift_down(w, words::first_word(i), words::first_word(last));
+    let from = words::first_word(i);
+    let to = words::first_word(last);
+    shift_down(&mut w[from..], to - from);
     w[0] = last as u32;
 }
 
@@ -68,7 +70,9 @@ pub(crate) fn insert_at(w: &mut [u32], at: usize, o: Order)
     ensures { λ _. ⌜ Holds (now (w .entry)) (now (w .exit)) (insertAt at o (resting (now (w .entry)))) ⌝ }
 {
     let n = words::count(w);
-    shift_up(w, words::first_word(at), words::first_word(n));
+    let from = words::first_word(at);
+    let to = words::first_word(n);
+    shift_up(&mut w[from..], to - from);
     words::store(w, at, o);
     w[0] = (n + 1) as u32;
 }

@@ -18,19 +18,21 @@ pub fn id_at(w: &[u32], i: usize) -> u32
     words::word_at(w, i, words::ID)
 }
 
-// How many orders stand before the first with a greater id: a binary search.
+// How many orders stand before the first with a greater id: a binary search among the size orders from low on.
 pub(crate) fn rank(w: &[u32], id: u32) -> usize
     requires { ⌜ Book (now w) × T (idsRise 0 (resting (now w))) ⌝ }
     ensures { λ r. ⌜ r ≡ rankOf id (resting (now (w .entry))) ⌝ }
 {
     let mut low = 0;
-    let mut high = words::count(w);
-    while low < high {
-        let middle = low + (high - low) / 2;
+    let mut size = words::count(w);
+    while size > 0 {
+        let half = size / 2;
+        let middle = low + half;
         if id_at(w, middle) <= id {
             low = middle + 1;
+            size = size - half - 1;
         } else {
-            high = middle;
+            size = half;
         }
     }
     low
@@ -64,6 +66,19 @@ pub fn find(w: &[u32], id: u32) -> Position
         return Position::At(above - 1);
     }
     Position::Absent
+}
+
+// The same, for an order that likely stands at a position.
+pub fn find_near(w: &[u32], id: u32, near: usize) -> Position
+    requires { ⌜ Book (now w) × T (idsRise 0 (resting (now w))) ⌝ }
+    ensures { λ r. ⌜ Found (resting (now (w .entry))) r (Orders.find id (resting (now (w .entry)))) ⌝ }
+{
+    if near < words::count(w) {
+        if id_at(w, near) == id {
+            return Position::At(near);
+        }
+    }
+    find(w, id)
 }
 
 // The first order with a greater id.

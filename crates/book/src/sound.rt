@@ -5,8 +5,8 @@ ghost use mathlib.Core.Path.{_≡_};
 ghost use Prim.Native.Nat.{_<_, _≤_};
 ghost use lib.ListN.{length};
 ghost use Rattle.book.specs.Sound.{slideAllowed, soundOrder};
-ghost use Rattle.book.specs.Words.{venueWords, orderAt, flagsAt, soundBook};
-ghost use Rattle.book.specs.RecordWalk.{fromOne, codesSound, pricesSound, idBefore, bucketOf, stampSeen, lastIn, Linked, soundAt};
+ghost use Rattle.book.specs.Words.{venueWords, word, orderAt, soundBook};
+ghost use Rattle.book.specs.RecordWalk.{fromOne, codesSound, pricesSound, bitsAt, idBefore, bucketOf, stampSeen, lastIn, Linked, soundAt};
 
 pub const VENUE: usize = 3344;
 
@@ -16,19 +16,19 @@ const BUCKETS: u32 = 256;
 
 pub const MOST_SHARES: u32 = 1_000_000;
 
-fn codes_sound(mark: u32, show: u32, life: u32, slide: u32) -> bool
-    ensures { λ r. ⌜ r ≡ codesSound mark show life slide ⌝ }
+fn codes_sound(mark: u32, life: u32, slide: u32) -> bool
+    ensures { λ r. ⌜ r ≡ codesSound mark life slide ⌝ }
 {
+    if life > 0 {
+        return false;
+    }
+    if mark == 2 {
+        return slide <= 3;
+    }
     if mark > 3 {
         return false;
     }
-    if show > 1 {
-        return false;
-    }
-    if life == 0 {
-        return slide_allowed(mark, slide);
-    }
-    false
+    slide == 0
 }
 
 pub fn slide_allowed(mark: u32, slide: u32) -> bool
@@ -43,10 +43,14 @@ pub fn slide_allowed(mark: u32, slide: u32) -> bool
     mark == 2
 }
 
+// The present price of most orders is their limit.
 fn prices_sound(limit: u32, price: u32, entry_bid: u32) -> bool
     ensures { λ r. ⌜ r ≡ pricesSound limit price «entry_bid» ⌝ }
 {
     if increments::is_legal(limit) {
+        if price == limit {
+            return increments::is_bid(entry_bid);
+        }
         if increments::is_legal(price) {
             return increments::is_bid(entry_bid);
         }
@@ -64,8 +68,9 @@ fn from_one(x: u32, highest: u32) -> bool
     x <= highest
 }
 
+// Whether an order is sound whose show is 0 or 1.
 fn order_sound(w: &[u32], i: usize, last_id: u32, last_stamp: u32) -> bool
-    requires { ⌜ (venueWords ≤ length (now w)) × (i < 256) ⌝ }
+    requires { ⌜ (venueWords ≤ length (now w)) × (i < 256) × (word (now w) i 4 ≤ 1) ⌝ }
     ensures { λ r. ⌜ r ≡ soundOrder «last_id» «last_stamp» (orderAt (now (w .entry)) i) ⌝ }
 {
     if words::word_at(w, i, words::ID) > last_id {
@@ -75,7 +80,6 @@ fn order_sound(w: &[u32], i: usize, last_id: u32, last_stamp: u32) -> bool
         if from_one(words::word_at(w, i, words::STAMP), last_stamp) {
             if codes_sound(
                 words::word_at(w, i, words::MARK),
-                words::word_at(w, i, words::SHOW),
                 words::word_at(w, i, words::LIFE),
                 words::word_at(w, i, words::SLIDE),
             ) {
@@ -90,37 +94,25 @@ fn order_sound(w: &[u32], i: usize, last_id: u32, last_stamp: u32) -> bool
     false
 }
 
-fn flags_sound(w: &[u32], i: usize) -> bool
+// Whether show and the three flags are each 0 or 1: none of them has another bit than the lowest.
+fn bits_sound(w: &[u32], i: usize) -> bool
     requires { ⌜ (venueWords ≤ length (now w)) × (i < 256) ⌝ }
-    ensures { λ r. ⌜ r ≡ flagsAt (now (w .entry)) i ⌝ }
+    ensures { λ r. ⌜ r ≡ bitsAt (now (w .entry)) i ⌝ }
 {
-    if words::word_at(w, i, words::ADJUSTED) > 1 {
-        return false;
-    }
-    if words::word_at(w, i, words::USED) > 1 {
-        return false;
-    }
-    words::word_at(w, i, words::CLEAR) <= 1
+    let show = words::word_at(w, i, words::SHOW);
+    let adjusted = words::word_at(w, i, words::ADJUSTED);
+    let used = words::word_at(w, i, words::USED);
+    let clear = words::word_at(w, i, words::CLEAR);
+    (show | (adjusted | (used | clear))) <= 1
 }
 
-// The id of the place before, 0 for the first.
-fn id_before(w: &[u32], i: usize) -> u32
-    requires { ⌜ (venueWords ≤ length (now w)) × (i < 256) ⌝ }
-    ensures { λ r. ⌜ r ≡ idBefore (now (w .entry)) i ⌝ }
-{
-    if i == 0 {
-        return 0;
-    }
-    words::word_at(w, i - 1, words::ID)
-}
-
-// Whether place i is sound by itself and beside the place before it.
-fn place_sound(w: &[u32], i: usize, last_id: u32, last_stamp: u32) -> bool
-    requires { ⌜ (venueWords ≤ length (now w)) × (i < 256) ⌝ }
+// Whether place i is sound by itself and beside the id of the place before it, 0 for the first.
+fn place_sound(w: &[u32], i: usize, before: u32, last_id: u32, last_stamp: u32) -> bool
+    requires { ⌜ (venueWords ≤ length (now w)) × (i < 256) × (before ≡ idBefore (now w) i) ⌝ }
     ensures { λ r. ⌜ r ≡ soundAt «last_id» «last_stamp» (now (w .entry)) i ⌝ }
 {
-    if flags_sound(w, i) {
-        if id_before(w, i) < words::word_at(w, i, words::ID) {
+    if bits_sound(w, i) {
+        if before < words::word_at(w, i, words::ID) {
             return order_sound(w, i, last_id, last_stamp);
         }
     }
@@ -157,9 +149,10 @@ pub fn is_sound(w: &[u32], last_id: u32, last_stamp: u32) -> bool
     }
     let mut heads = [0u32; 256];
     let mut links = [0u32; 256];
+    let mut before = 0;
     let mut i = 0;
     while i < n {
-        if !place_sound(w, i, last_id, last_stamp) {
+        if !place_sound(w, i, before, last_id, last_stamp) {
             return false;
         }
         let stamp = words::word_at(w, i, words::STAMP);
@@ -170,6 +163,7 @@ pub fn is_sound(w: &[u32], last_id: u32, last_stamp: u32) -> bool
         }
         links[i] = last;
         heads[bucket] = (i + 1) as u32;
+        before = words::word_at(w, i, words::ID);
         i += 1;
     }
     true

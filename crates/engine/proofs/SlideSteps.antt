@@ -5,13 +5,15 @@ use native.Mathlib.Numerals.{add-one}
 use native.Mathlib.Decide.{decLt}
 use native.Mathlib.Omega.{arith}
 use mathlib.Core.Path.{_≡_, refl, sym, ap, ap₂, _∙_, subst}
-use mathlib.Core.Bool.{Bool}
+use mathlib.Core.Bool.{Bool, false, _&&_}
 use mathlib.Core.Option.{Option, none, some}
 use mathlib.Core.List.{List, [], _∷_, _++_}
+use lib.Dec.{eqb}
 use lib.ListN.{length, getD, set, drop, drop-of-length-le}
 use lib.Seq.{getD-set-same, getD-set-other}
-use Rattle.numbers.specs.Tests.{All}
+use Rattle.numbers.specs.Tests.{pick, All}
 use Rattle.numbers.specs.SevenBit.{Put}
+use Rattle.prices.specs.Restriction.{restrictionOn}
 use Rattle.book.specs.declared.Order.{Order}
 use Rattle.book.specs.Orders.{find, without}
 use Rattle.book.specs.Words.{emptyOrder, resting, Holds}
@@ -25,7 +27,8 @@ use Rattle.engine.specs.declared.Move.the-variants.{Stay, Cancel, Repric
 use Rattle.engine.specs.Reports.{Report, repriced}
 use Rattle.engine.specs.Records.{reportBytes}
 use Rattle.engine.specs.Working.{work}
-use Rattle.engine.specs.Pass.{Effect, atNewPrice, afterMove, passOne, passOver}
+use Rattle.engine.specs.Market.{restricted}
+use Rattle.engine.specs.Pass.{Effect, moveOf, atNewPrice, afterMove, passOne, passOver}
 use Rattle.engine.specs.Memory.{Ordered, Room, Does, DoesEffect}
 use Rattle.engine.specs.Steps.{MayEnter, moveInPass, repricedReports, turnOf, idsOf}
 use Rattle.engine.proofs.StepLaws.{put-one, room-as, room-first, room-one, room-then, ordered-rises, ordered-distinct, holds-ordered, holds-header, does-as, does-then, at-member, Underway, underway-start, underway-as, underway-room, underway-then, underway-end}
@@ -166,6 +169,24 @@ before x y = record { reports = x .reports ++ y .reports; orders = y .orders; st
 over-more : (m : Market) (i : ℕ) (js : List ℕ) (os : List Order) (s : ℕ) → passOver m (i ∷ js) os s ≡ before (turnOf m i os s) (passOver m js (turnOf m i os s .orders) (turnOf m i os s .stamp))
 unfolding passOver
 over-more m i js os s = refl
+
+-- while the restriction is off, no order is restricted, and the pass does nothing
+
+abbrev nothing : List Order → ℕ → Effect
+nothing os s = record { reports = []; orders = os; stamp = s }
+
+turn-off : (m : Market) (i : ℕ) (os : List Order) (s : ℕ) → restrictionOn (m .phase) ≡ false → turnOf m i os s ≡ nothing os s
+unfolding passOne afterMove restricted pick
+turn-off m i os s e = go (find i os)
+  where
+    go : (z : Option Order) → passOne m z os s ≡ nothing os s
+    go none = refl
+    go (some o) = ap (λ (b : Bool). afterMove (pick (b && eqb (o .mark) 2) (moveOf m o) Stay) o os s) e
+
+pub pass-off : (m : Market) (is : List ℕ) (os : List Order) (s : ℕ) → restrictionOn (m .phase) ≡ false → nothing os s ≡ passOver m is os s
+pass-off m [] os s e = sym (over-none m os s)
+pass-off m (i ∷ is) os s e =
+    sym (over-more m i is os s ∙ ap (λ (x : Effect). before x (passOver m is (x .orders) (x .stamp))) (turn-off m i os s e) ∙ ap (before (nothing os s)) (sym (pass-off m is os s e)))
 
 -- one turn more, of the order with the id i
 module _ {w₀ w b₀ b : List ℕ} {at n : ℕ} {m : Market} {is₀ is : List ℕ} {s₀ s : ℕ} (i : ℕ) (js : List ℕ) (e : is ≡ i ∷ js) (room : Room b₀ at (passOver m is₀ (resting w₀) s₀ .reports)) (f : Passing w₀ w b₀ b at n m is₀ is s₀ s) where

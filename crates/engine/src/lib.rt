@@ -64,10 +64,11 @@ pub struct WorkingOrder {
     pub end: usize,
 }
 
-// The offset behind the reports of the pass, or of a part of it, and the last stamp.
+// The offset behind the reports of the pass, or of a part of it, the last stamp, and where the next order likely stands.
 pub struct Passed {
     pub end: usize,
     pub stamp: u32,
+    pub next: usize,
 }
 
 // Why open or an event is refused.

@@ -9,6 +9,7 @@ use book::Position;
 use book::place;
 use book::search;
 use book::words;
+use prices::restriction;
 ghost use mathlib.Core.Path.{_≡_};
 ghost use Prim.Native.Nat.{_+_, _<_};
 ghost use mathlib.Core.Bool.{_&&_, not};
@@ -151,27 +152,51 @@ fn make_move(
     ensures { λ r. ⌜ DoesEffect (now (w .entry)) (now (w .exit)) (now (reports .entry)) (now (reports .exit)) at (afterMove made o (resting (now (w .entry))) stamp) (r .end) (r .stamp) ⌝ }
 {
     match made {
-        Move::Stay => Passed { end: at, stamp },
+        Move::Stay => Passed {
+            end: at,
+            stamp,
+            next: i + 1,
+        },
         Move::Cancel => {
             let end = report::write_cancelled(reports, at, o.id, o.shares, working::OPT_OUT);
             place::remove(w, i);
-            Passed { end, stamp }
+            Passed {
+                end,
+                stamp,
+                next: i,
+            }
         },
         Move::Reprice(price, used) => {
             let next = stamp + 1;
             let end = reprice(w, reports, at, i, at_new_price(price, next, used, o));
-            Passed { end, stamp: next }
+            Passed {
+                end,
+                stamp: next,
+                next: i + 1,
+            }
         },
     }
 }
 
-// The turn of the order with an id; one that no longer rests is skipped.
-fn turn(w: &mut [u32], reports: &mut [u8], at: usize, m: Market, id: u32, stamp: u32) -> Passed
+// The turn of the order with an id, which likely stands at a position; one that no longer rests is skipped.
+fn turn(
+    w: &mut [u32],
+    reports: &mut [u8],
+    at: usize,
+    m: Market,
+    id: u32,
+    near: usize,
+    stamp: u32,
+) -> Passed
     requires { ⌜ Ordered (now w) × T (isBid (m .bid)) × (stamp < 4294967295) × Room (now reports) at (turnOf m id (resting (now w)) stamp .reports) ⌝ }
     ensures { λ r. ⌜ DoesEffect (now (w .entry)) (now (w .exit)) (now (reports .entry)) (now (reports .exit)) at (turnOf m id (resting (now (w .entry))) stamp) (r .end) (r .stamp) ⌝ }
 {
-    let Position::At(i) = search::find(w, id) else {
-        return Passed { end: at, stamp };
+    let Position::At(i) = search::find_near(w, id, near) else {
+        return Passed {
+            end: at,
+            stamp,
+            next: near,
+        };
     };
     let o = words::load(w, i);
     let made = move_in_pass(m, o);
@@ -193,21 +218,34 @@ fn resting_ids(w: &[u32]) -> [u32; 256]
     ids
 }
 
-// The pass over the orders then resting.
+// The pass over the orders then resting; none is restricted while the restriction is off.
 pub(crate) fn pass(w: &mut [u32], reports: &mut [u8], at: usize, m: Market, stamp: u32) -> Passed
     requires { ⌜ Ordered (now w) × T (isBid (m .bid)) × (stamp + 256 < 4294967296) × Room (now reports) at (passOver m (idsOf (resting (now w))) (resting (now w)) stamp .reports) ⌝ }
     ensures { λ r. ⌜ DoesEffect (now (w .entry)) (now (w .exit)) (now (reports .entry)) (now (reports .exit)) at (passOver m (idsOf (resting (now (w .entry)))) (resting (now (w .entry))) stamp) (r .end) (r .stamp) ⌝ }
 {
+    if !restriction::restriction_on(m.phase) {
+        return Passed {
+            end: at,
+            stamp,
+            next: 0,
+        };
+    }
     let count = words::count(w);
     let ids = resting_ids(w);
     let mut end = at;
     let mut last = stamp;
+    let mut near = 0;
     let mut i = 0;
     while i < count {
-        let turned = turn(w, reports, end, m, ids[i], last);
+        let turned = turn(w, reports, end, m, ids[i], near, last);
         end = turned.end;
         last = turned.stamp;
+        near = turned.next;
         i += 1;
     }
-    Passed { end, stamp: last }
+    Passed {
+        end,
+        stamp: last,
+        next: near,
+    }
 }

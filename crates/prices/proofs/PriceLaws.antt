@@ -2,12 +2,12 @@
 use Prim.Native.Nat.{ℕ, suc, _+_, _%_, _≤_, _<_, max}
 use native.Mathlib.Omega.{arith}
 use native.Mathlib.Decide.{decLe, decLt}
-use mathlib.Core.Path.{_≡_}
-use mathlib.Core.Bool.{_&&_, _||_}
+use mathlib.Core.Path.{_≡_, refl, subst}
+use mathlib.Core.Bool.{true, false, _&&_, _||_}
 use mathlib.Core.Logic.{_⊎_, inl, inr}
 use lib.Dec.{T, leb, ltb, eqb, leb→le, le→leb, eqb→eq}
 use Rattle.prices.specs.Prices.{highest, dollarBorder, step, highestBid, legal, isBid, permitted}
-use Rattle.numbers.proofs.TestLaws.{by-test, and-T, T-and, or-T, T-inl, T-inr, eq→T, tests}
+use Rattle.numbers.proofs.TestLaws.{by-test, bool-ext, and-T, T-and, or-T, T-inl, T-inr, eq→T, tests}
 
 -- what the test of a legal price says
 
@@ -35,6 +35,30 @@ legal-in p h = T-and (leb 1 p) _ (le→leb 1 p (h .low)) (T-and (leb p highest) 
     go (inl x) = T-inl (ltb p dollarBorder) (eqb (p % step) 0) (le→leb (suc p) dollarBorder x)
     go (inr x) = T-inr (ltb p dollarBorder) (eqb (p % step) 0) (eq→T x)
 
+-- by the tests of whole steps
+
+not-whole : (p : ℕ) → (p % step ≡ 0 → ⊥) → 1 ≤ p
+not-whole p n = go (decLe 1 p)
+  where
+    go : Dec (1 ≤ p) → 1 ≤ p
+    go (yes l) = l
+    go (no l) = let z : 0 ≡ p = omega arith in absurd (n (subst (λ (x : ℕ). x % step ≡ 0) z refl))
+
+below : (p : ℕ) → (p % step ≡ 0 → ⊥) → (p < dollarBorder) ⊎ (p % step ≡ 0) → T (ltb p dollarBorder)
+below p n (inl l) = le→leb (suc p) dollarBorder l
+below p n (inr e) = absurd (n e)
+
+pub legal-beyond : (p : ℕ) → highest < p → false ≡ legal p
+legal-beyond p h = bool-ext _ _ (λ t. absurd t) (λ t. absurd (omega (arith, legal-out p t .high)))
+
+pub legal-whole : (p : ℕ) → p ≤ highest → p % step ≡ 0 → leb 1 p ≡ legal p
+legal-whole p h e =
+    bool-ext _ _ (λ t. legal-in p (record { low = leb→le 1 p t; high = h; onStep = inr e })) (λ t. le→leb 1 p (legal-out p t .low))
+
+pub legal-other : (p : ℕ) → p ≤ highest → (p % step ≡ 0 → ⊥) → ltb p dollarBorder ≡ legal p
+legal-other p h n =
+    bool-ext _ _ (λ t. legal-in p (record { low = not-whole p n; high = h; onStep = inl (leb→le (suc p) dollarBorder t) })) (λ t. below p n (legal-out p t .onStep))
+
 pub legal-positive : (p : ℕ) → T (legal p) → 1 ≤ p
 legal-positive p t = legal-out p t .low
 
@@ -55,6 +79,33 @@ bid-out b t = go (or-T (eqb b 0) (legal b && leb b highestBid) t)
     go : T (eqb b 0) ⊎ T (legal b && leb b highestBid) → (b ≡ 0) ⊎ (Legal b × (b ≤ highestBid))
     go (inl x) = inl (eqb→eq b 0 x)
     go (inr x) = let r = and-T (legal b) (leb b highestBid) x in inr (legal-out b (r .0), leb→le b highestBid (r .1))
+
+bid-in : (b : ℕ) → (b ≡ 0) ⊎ (Legal b × (b ≤ highestBid)) → T (isBid b)
+unfolding isBid
+bid-in b (inl z) = T-inl (eqb b 0) _ (eq→T z)
+bid-in b (inr l) = T-inr (eqb b 0) _ (T-and (legal b) _ (legal-in b (l .0)) (le→leb b highestBid (l .1)))
+
+pub bid-whole : (b : ℕ) → b ≤ highestBid → b % step ≡ 0 → true ≡ isBid b
+bid-whole b h e = bool-ext _ _ (λ t. bid-in b (go (decLe 1 b))) (λ t. tt)
+  where
+    go : Dec (1 ≤ b) → (b ≡ 0) ⊎ (Legal b × (b ≤ highestBid))
+    go (yes l) = inr (record { low = l; high = omega arith; onStep = inr e }, h)
+    go (no l) = inl (omega arith)
+
+pub bid-other : (b : ℕ) → b ≤ highestBid → (b % step ≡ 0 → ⊥) → ltb b dollarBorder ≡ isBid b
+bid-other b h n =
+    bool-ext _ _ (λ t. bid-in b (inr (record { low = not-whole b n; high = omega arith; onStep = inl (leb→le (suc b) dollarBorder t) }, h))) (λ t. out (bid-out b t))
+  where
+    out : (b ≡ 0) ⊎ (Legal b × (b ≤ highestBid)) → T (ltb b dollarBorder)
+    out (inl z) = le→leb (suc b) dollarBorder (omega arith)
+    out (inr l) = below b n (l .0 .onStep)
+
+pub bid-beyond : (b : ℕ) → highestBid < b → false ≡ isBid b
+bid-beyond b h = bool-ext _ _ (λ t. absurd t) (λ t. absurd (out (bid-out b t)))
+  where
+    out : (b ≡ 0) ⊎ (Legal b × (b ≤ highestBid)) → ⊥
+    out (inl z) = omega arith
+    out (inr l) = omega (arith, l .1)
 
 pub no-bid : T (isBid 0)
 unfolding isBid

@@ -29,28 +29,26 @@ const HIGHEST_BID: u32 = 99_999_900;
 pub fn is_legal(value: u32) -> bool
     ensures { λ r. ⌜ r ≡ legal value ⌝ }
 {
-    if value < 1 {
-        return false;
-    }
     if value > Price::HIGHEST {
         return false;
     }
-    if value < Price::DOLLAR_BORDER {
-        return true;
+    if value % STEP == 0 {
+        return value >= 1;
     }
-    value % STEP == 0
+    value < Price::DOLLAR_BORDER
 }
 
+// No bid, 0, is a whole number of steps too.
 pub fn is_bid(value: u32) -> bool
     ensures { λ r. ⌜ r ≡ isBid value ⌝ }
 {
-    if value == 0 {
+    if value > HIGHEST_BID {
+        return false;
+    }
+    if value % STEP == 0 {
         return true;
     }
-    if is_legal(value) {
-        return value <= HIGHEST_BID;
-    }
-    false
+    value < Price::DOLLAR_BORDER
 }
 
 // The lowest legal price above a bid.

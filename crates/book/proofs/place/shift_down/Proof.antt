@@ -1,6 +1,6 @@
 -- The loop of `shift_down`: the words up to j are moved. Assumes nothing.
 use borrow.Author.Needs.{needs}
-use Prim.Native.Nat.{_-_, _≤_}
+use Prim.Native.Nat.{_-_, _≤_, zero-le}
 use mathlib.Core.Path.{_≡_}
 use native.Mathlib.Omega.{arith}
 use Rattle.book.specs.WordSteps.{ShiftedDown}
@@ -9,28 +9,28 @@ use Rattle.book.proofs.place.shift_down.Statement.{statement}
 use Rattle.book.proofs.place.shift_down.Tie as tie
 
 abbrev Inv-loop : tie.InvT-loop
-Inv-loop w₀ from to j₀ w j = ShiftedDown w₀ w from j × (from ≤ j) × (j ≤ to)
+Inv-loop s₀ n j₀ s j = ShiftedDown s₀ s 0 j × (j ≤ n)
 
 abbrev μ-loop : tie.MeasureT-loop
-μ-loop w₀ from to j₀ w j = to - j
+μ-loop s₀ n j₀ s j = n - j
 
 loop-holds : tie.Need-loop-holds Inv-loop μ-loop
-loop-holds c = (shifted-down-none _ _, search needs, search needs)
+loop-holds c = (shifted-down-none _ _, search needs)
 
-add-w : tie.Need-add-w Inv-loop μ-loop
-add-w c = search needs
+add-s : tie.Need-add-s Inv-loop μ-loop
+add-s c = search needs
 
-mul-w : tie.Need-mul-w Inv-loop μ-loop
-mul-w c = search needs
+mul-s : tie.Need-mul-s Inv-loop μ-loop
+mul-s c = search needs
 
-slice-read-w : tie.Need-slice-read-w Inv-loop μ-loop
-slice-read-w c = search needs
+slice-read-s : tie.Need-slice-read-s Inv-loop μ-loop
+slice-read-s c = search needs
 
-mul-w-2 : tie.Need-mul-w-2 Inv-loop μ-loop
-mul-w-2 c = search needs
+mul-s-2 : tie.Need-mul-s-2 Inv-loop μ-loop
+mul-s-2 c = search needs
 
-slice-write-w : tie.Need-slice-write-w Inv-loop μ-loop
-slice-write-w c = search needs
+slice-write-s : tie.Need-slice-write-s Inv-loop μ-loop
+slice-write-s c = search needs
 
 add-j : tie.Need-add-j Inv-loop μ-loop
 add-j c = search needs
@@ -39,13 +39,13 @@ loop-less : tie.Need-loop-less Inv-loop μ-loop
 loop-less c = search needs
 
 loop-again : tie.Need-loop-again Inv-loop μ-loop
-loop-again c = (shifted-down-more _ _ _ _ (c .before .before .loop .inv .0) (search needs) (search needs), search needs, search needs)
+loop-again c = (shifted-down-more _ _ 0 _ (c .before .before .loop .inv .0) zero-le (search needs), search needs)
 
 same-length : tie.Need-same-length Inv-loop μ-loop
 same-length c = c .before .loop .inv .0 .size
 
 returns : tie.Need-returns Inv-loop μ-loop
-returns c = let e : c .before .loop .j ≡ c .before .before .args .to = omega arith in rw e at (c .before .loop .inv .0)
+returns c = let e : c .before .loop .j ≡ c .before .before .args .n = omega arith in rw e at (c .before .loop .inv .0)
 
 pub shift-down-spec : {M : Type 1} → statement M
 shift-down-spec =
@@ -54,11 +54,11 @@ shift-down-spec =
     Inv-loop
     μ-loop
     loop-holds
-    add-w
-    mul-w
-    slice-read-w
-    mul-w-2
-    slice-write-w
+    add-s
+    mul-s
+    slice-read-s
+    mul-s-2
+    slice-write-s
     add-j
     loop-less
     loop-again

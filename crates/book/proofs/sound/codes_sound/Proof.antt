@@ -1,29 +1,28 @@
 -- `codes_sound` by its tests. Assumes nothing.
+use native.Mathlib.Omega.{arith}
+use mathlib.Core.Path.{_≡_, sym, _∙_}
 use borrow.Author.Tests.{le-leb, lt-leb, eq-eqb, ne-eqb}
+use Rattle.numbers.proofs.TestLaws.{and-yes, and-no}
 use Rattle.book.specs.RecordWalk.{codesSound}
-use borrow.Author.Needs.{needs}
+use Rattle.book.proofs.SoundOrderLaws.{slide-of-short, slide-of-other}
 use Rattle.book.proofs.sound.codes_sound.Statement.{statement}
 use Rattle.book.proofs.sound.codes_sound.Tie as tie
 
 returns : tie.Need-returns
 unfolding codesSound
-returns c = simp (lt-leb _ 3 (c .if1 .taken))
+returns c = let a = c .before .args in sym (and-no _ (ne-eqb (a .life) 0 (λ (e : a .life ≡ 0). omega (arith, c .if1 .taken))))
 
 returns-2 : tie.Need-returns-2
 unfolding codesSound
-returns-2 c = simp (le-leb _ 3 (c .before .if1 .left), lt-leb _ 1 (c .if2 .taken))
-
-slide-allowed-requires : tie.Need-slide-allowed-requires
-slide-allowed-requires c κs = search needs
+returns-2 c = let a = c .before .before .args in slide-of-short (a .mark) (a .slide) (c .if2 .taken) ∙ sym (and-yes _ (eq-eqb (a .life) 0 (omega (arith, c .before .if1 .left))) ∙ and-yes _ (le-leb (a .mark) 3 (omega (arith, c .if2 .taken))))
 
 returns-3 : tie.Need-returns-3
 unfolding codesSound
-returns-3 c = simp (le-leb _ 3 (c .before .before .before .if1 .left), le-leb _ 1 (c .before .before .if2 .left), eq-eqb _ 0 (c .before .if3 .taken)) (c .slide-allowed .ensures)
+returns-3 c = let a = c .before .before .before .args in sym (and-yes _ (eq-eqb (a .life) 0 (omega (arith, c .before .before .if1 .left))) ∙ and-no _ (lt-leb (a .mark) 3 (c .if3 .taken)))
 
 returns-4 : tie.Need-returns-4
 unfolding codesSound
-returns-4 c = simp (le-leb _ 3 (c .before .before .if1 .left), le-leb _ 1 (c .before .if2 .left), ne-eqb _ 0 (c .if3 .left))
+returns-4 c = let a = c .before .before .before .args in slide-of-other (a .mark) (a .slide) (c .before .if2 .left) ∙ sym (and-yes _ (eq-eqb (a .life) 0 (omega (arith, c .before .before .if1 .left))) ∙ and-yes _ (le-leb (a .mark) 3 (c .if3 .left)))
 
 pub codes-sound-spec : {M : Type 1} → statement M
-codes-sound-spec =
-    tie.close (tie.spec returns returns-2 slide-allowed-requires returns-3 returns-4)
+codes-sound-spec = tie.close (tie.spec returns returns-2 returns-3 returns-4)

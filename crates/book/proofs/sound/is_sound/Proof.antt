@@ -5,16 +5,18 @@ use mathlib.Core.Path.{_≡_, refl, sym, ap, _∙_}
 use native.Mathlib.Omega.{arith}
 use lib.ListN.{getD}
 use Rattle.numbers.proofs.TestLaws.{not-yes, not-no}
-use Rattle.book.specs.RecordWalk.{lastIn}
+use Rattle.book.specs.RecordWalk.{lastIn, idBefore}
+use Rattle.book.proofs.StampLaws.{idBefore-next}
 use Rattle.book.proofs.WalkLaws.{Walked, walked-start, walked-more, walked-all, too-short, too-many, unsound-place, seen-stamp}
 use Rattle.book.proofs.sound.is_sound.Statement.{statement}
 use Rattle.book.proofs.sound.is_sound.Tie as tie
 
 abbrev Inv-loop : tie.InvT-loop
-Inv-loop w last-id last-stamp n heads₀ links₀ i₀ heads links i = Walked last-id last-stamp w heads links i × (n ≡ getD w 0 0)
+Inv-loop w last-id last-stamp n heads₀ links₀ before₀ i₀ heads links before i =
+    Walked last-id last-stamp w heads links i × (n ≡ getD w 0 0) × (before ≡ idBefore w i)
 
 abbrev μ-loop : tie.MeasureT-loop
-μ-loop w last-id last-stamp n heads₀ links₀ i₀ heads links i = n - i
+μ-loop w last-id last-stamp n heads₀ links₀ before₀ i₀ heads links before i = n - i
 
 returns : tie.Need-returns Inv-loop μ-loop
 returns c = let s = c .before .before in let w = s .args .w .now in let a = s .args .last-id in let b = s .args .last-stamp in too-short a b w (c .if1 .taken)
@@ -29,10 +31,10 @@ returns-2 : tie.Need-returns-2 Inv-loop μ-loop
 returns-2 c = let s = c .before .before .before .before .before in let w = s .args .w .now in let a = s .args .last-id in let b = s .args .last-stamp in too-many a b w (omega (arith, c .before .wide .ensures, c .if2 .taken))
 
 loop-holds : tie.Need-loop-holds Inv-loop μ-loop
-loop-holds c = let s = c .before .before .before .before .before in let w = s .args .w .now in let a = s .args .last-id in let b = s .args .last-stamp in (walked-start a b w (omega arith) (omega (arith, c .before .wide .ensures, c .if2 .left)), c .before .wide .ensures)
+loop-holds c = let s = c .before .before .before .before .before in let w = s .args .w .now in let a = s .args .last-id in let b = s .args .last-stamp in (walked-start a b w (omega arith) (omega (arith, c .before .wide .ensures, c .if2 .left)), c .before .wide .ensures, refl)
 
 place-sound-requires : tie.Need-place-sound-requires Inv-loop μ-loop
-place-sound-requires c κs = search needs
+place-sound-requires c κs = let k = c .before .loop .inv .0 in (k .long, omega (arith, c .loop-test .taken, k .few, c .before .loop .inv .1), c .before .loop .inv .2)
 
 returns-3 : tie.Need-returns-3 Inv-loop μ-loop
 returns-3 c = let s = c .before .before .before .before .before .before .before .before .before in let w = s .args .w .now in let a = s .args .last-id in let b = s .args .last-stamp in unsound-place a b w (c .before .before .before .loop .i) (omega (arith, c .before .before .loop-test .taken, c .before .before .before .loop .inv .1)) (sym (c .before .place-sound .ensures) ∙ not-yes (c .before .place-sound .result) (c .if3 .taken))
@@ -73,6 +75,9 @@ mul-heads c = search needs
 array-write-heads : tie.Need-array-write-heads Inv-loop μ-loop
 array-write-heads c = search needs
 
+word-at-requires-2 : tie.Need-word-at-requires-2 Inv-loop μ-loop
+word-at-requires-2 c κs = search needs
+
 add-i : tie.Need-add-i Inv-loop μ-loop
 add-i c = search needs
 
@@ -80,7 +85,7 @@ loop-less : tie.Need-loop-less Inv-loop μ-loop
 loop-less c = search needs
 
 loop-again : tie.Need-loop-again Inv-loop μ-loop
-loop-again c = let s = c .before .before .before .before .before .before .before .before .before .before .before .before .before .before in let w = s .args .w .now in let a = s .args .last-id in let b = s .args .last-stamp in (walked-more a b w (c .before .before .before .before .word-at .result) (c .before .before .before .wide2 .result) _ (c .before .before .before .before .before .before .before .before .loop .inv .0) (omega (arith, c .before .before .before .before .before .before .before .loop-test .taken, c .before .before .before .before .before .before .before .before .loop .inv .1)) (c .before .before .before .before .word-at .ensures) (c .before .before .before .wide2 .ensures) refl (sym (c .before .before .before .before .before .before .place-sound .ensures) ∙ not-no (c .before .before .before .before .before .before .place-sound .result) (c .before .before .before .before .before .if3 .left)) (sym (c .before .stamp-seen .ensures) ∙ c .if4 .left), c .before .before .before .before .before .before .before .before .loop .inv .1)
+loop-again c = let s = c .before .before .before .before .before .before .before .before .before .before .before .before .before .before .before in let w = s .args .w .now in let a = s .args .last-id in let b = s .args .last-stamp in (walked-more a b w (c .before .before .before .before .before .word-at .result) (c .before .before .before .before .wide2 .result) _ (c .before .before .before .before .before .before .before .before .before .loop .inv .0) (omega (arith, c .before .before .before .before .before .before .before .before .loop-test .taken, c .before .before .before .before .before .before .before .before .before .loop .inv .1)) (c .before .before .before .before .before .word-at .ensures) (c .before .before .before .before .wide2 .ensures) refl (sym (c .before .before .before .before .before .before .before .place-sound .ensures) ∙ not-no (c .before .before .before .before .before .before .before .place-sound .result) (c .before .before .before .before .before .before .if3 .left)) (sym (c .before .before .stamp-seen .ensures) ∙ c .before .if4 .left), c .before .before .before .before .before .before .before .before .before .loop .inv .1, c .word-at2 .ensures ∙ idBefore-next w (c .before .before .before .before .before .before .before .before .before .loop .i))
 
 returns-5 : tie.Need-returns-5 Inv-loop μ-loop
 returns-5 c = let s = c .before .before .before .before .before .before .before in let w = s .args .w .now in let a = s .args .last-id in let b = s .args .last-stamp in walked-all a b w (c .before .loop .inv .0) (omega (arith, c .loop-test .left, c .before .loop .inv .1))
@@ -110,6 +115,7 @@ is-sound-spec =
     cast-heads
     mul-heads
     array-write-heads
+    word-at-requires-2
     add-i
     loop-less
     loop-again

@@ -1,45 +1,46 @@
 -- `place_sound` by its three tests. Assumes nothing.
 use mathlib.Core.Path.{_≡_, sym, ap₂, _∙_}
-use mathlib.Core.Bool.{true, false}
+use mathlib.Core.Bool.{true, false, _&&_}
 use borrow.Author.Tests.{lt-ltb, le-ltb}
-use lib.Dec.{ltb}
-use Rattle.book.specs.Words.{word}
-use Rattle.book.specs.RecordWalk.{idBefore, soundAt}
-use Rattle.numbers.proofs.TestLaws.{and-yes, and-no}
+use lib.Dec.{T, leb, ltb, leb→le}
+use Rattle.book.specs.Words.{word, flagsAt}
+use Rattle.book.specs.RecordWalk.{bitsAt, idBefore, soundAt}
+use Rattle.numbers.proofs.TestLaws.{answered-T, T-true, and-T, and-yes, and-no}
+use Rattle.book.proofs.SoundOrderLaws.{unsound-bits}
 use borrow.Author.Needs.{needs}
 use Rattle.book.proofs.sound.place_sound.Statement.{statement}
 use Rattle.book.proofs.sound.place_sound.Tie as tie
 
-flags-sound-requires : tie.Need-flags-sound-requires
-flags-sound-requires c κs = search needs
+-- show and the flags, where the bits are sound
+bits : (c : tie.Then1) → let a = c .before .before .before .args in T (leb (word (a .w .now) (a .i) 4) 1) × T (flagsAt (a .w .now) (a .i))
+unfolding bitsAt
+bits c = let a = c .before .before .before .args in and-T (leb (word (a .w .now) (a .i) 4) 1) _ (answered-T (c .before .bits-sound .ensures) (c .if1 .taken))
 
-id-before-requires : tie.Need-id-before-requires
-id-before-requires c κs = search needs
+bits-sound-requires : tie.Need-bits-sound-requires
+bits-sound-requires c κs = search needs
 
 word-at-requires : tie.Need-word-at-requires
 word-at-requires c κs = search needs
 
 order-sound-requires : tie.Need-order-sound-requires
-order-sound-requires c κs = search needs
+order-sound-requires c κs = let s = c .before .before .before .before .before in (s .pre .0, s .pre .1, leb→le _ _ (bits (c .before .before) .0))
 
 returns : tie.Need-returns
 unfolding soundAt
-returns c = let s = c .before .before .before .before .before .before .before in let w = s .args .w .now in let i = s .args .i in sym (and-yes _ (sym (c .before .before .before .before .before .flags-sound .ensures) ∙ c .before .before .before .before .if1 .taken) ∙ and-yes _ (let k : ltb (idBefore w i) (word w i 0) ≡ true = ap₂ ltb (sym (c .before .before .before .id-before .ensures)) (sym (c .before .before .word-at .ensures)) ∙ lt-ltb (c .before .before .before .id-before .result) (c .before .before .word-at .result) (c .before .if2 .taken) in k) ∙ sym (c .order-sound .ensures))
+returns c = let s = c .before .before .before .before .before .before in let w = s .args .w .now in let i = s .args .i in sym (and-yes _ (T-true (flagsAt w i) (bits (c .before .before .before) .1)) ∙ and-yes _ (let k : ltb (idBefore w i) (word w i 0) ≡ true = ap₂ ltb (sym (s .pre .2)) (sym (c .before .before .word-at .ensures)) ∙ lt-ltb (s .args .before) (c .before .before .word-at .result) (c .before .if2 .taken) in k) ∙ sym (c .order-sound .ensures))
 
 returns-2 : tie.Need-returns-2
 unfolding soundAt
-returns-2 c = let s = c .before .before .before .before .before .before in let w = s .args .w .now in let i = s .args .i in sym (and-yes _ (sym (c .before .before .before .before .flags-sound .ensures) ∙ c .before .before .before .if1 .taken) ∙ and-no _ (let k : ltb (idBefore w i) (word w i 0) ≡ false = ap₂ ltb (sym (c .before .before .id-before .ensures)) (sym (c .before .word-at .ensures)) ∙ le-ltb (c .before .before .id-before .result) (c .before .word-at .result) (c .if2 .left) in k))
+returns-2 c = let s = c .before .before .before .before .before in let w = s .args .w .now in let i = s .args .i in sym (and-yes _ (T-true (flagsAt w i) (bits (c .before .before) .1)) ∙ and-no _ (let k : ltb (idBefore w i) (word w i 0) ≡ false = ap₂ ltb (sym (s .pre .2)) (sym (c .before .word-at .ensures)) ∙ le-ltb (s .args .before) (c .before .word-at .result) (c .if2 .left) in k))
 
 returns-3 : tie.Need-returns-3
-unfolding soundAt
-returns-3 c = let s = c .before .before .before in let w = s .args .w .now in let i = s .args .i in sym (and-no _ (sym (c .before .flags-sound .ensures) ∙ c .if1 .left))
+returns-3 c = let s = c .before .before .before in let w = s .args .w .now in let i = s .args .i in sym (unsound-bits (s .args .last-id) (s .args .last-stamp) w i (sym (c .before .bits-sound .ensures) ∙ c .if1 .left))
 
 pub place-sound-spec : {M : Type 1} → statement M
 place-sound-spec =
     tie.close
     (tie.spec
-    flags-sound-requires
-    id-before-requires
+    bits-sound-requires
     word-at-requires
     order-sound-requires
     returns

@@ -1,4 +1,5 @@
 -- By the move. Assumes nothing.
+use native.Mathlib.Omega.{arith}
 use mathlib.Core.Path.{refl, sym, ap, _∙_}
 use Rattle.book.specs.declared.Order.{Order}
 use Rattle.book.specs.Orders.{without}
@@ -14,6 +15,9 @@ use Rattle.engine.proofs.slide.make_move.Tie as tie
 
 enum-told : tie.Need-enum-told
 enum-told c = search needs
+
+add-t14 : tie.Need-add-t14
+add-t14 c = let s = c .before .before .before .before in omega (arith, s .pre .0 .1, s .pre .0 .0 .book .few)
 
 enum-told-2 : tie.Need-enum-told-2
 enum-told-2 c = search needs
@@ -48,6 +52,9 @@ reprice-requires c κs =
     let x = c .at-new-price .result in
     let e = c .at-new-price .ensures in
     ((s .pre .0 .0, s .pre .0 .1, ap (λ (z : Order). z .id) e ∙ ap (λ (z : Order). z .id) (s .pre .0 .2)), room-as (a .reports .now) (a .at) (sym (new-price-reports x (a .o) k (a .stamp) u l e)) (move-room (a .reports .now) (a .at) (a .o) l (a .stamp) (c .before .before .before .before .made .given .1) (s .pre .1)))
+
+add-t25 : tie.Need-add-t25
+add-t25 c = let s = c .before .before .before .before .before .before .before .before .before .before .before .before .before in omega (arith, s .pre .0 .1, s .pre .0 .0 .book .few)
 
 returns : tie.Need-returns
 unfolding afterMove
@@ -92,4 +99,4 @@ returns-3 c =
     moves (a .o) l (a .stamp) (c .before .before .before .before .before .before .before .before .before .made .given .1) (record { does = does-as (new-price-orders x (a .o) k (a .stamp) u l e) (new-price-reports x (a .o) k (a .stamp) u l e) (c .before .before .before .before .reprice .ensures); stamped = refl })
 
 pub make-move-spec : {M : Type 1} → statement M
-make-move-spec = tie.close (tie.spec enum-told enum-told-2 write-cancelled-requires remove-requires enum-known-made add-next at-new-price-requires reprice-requires returns same-length same-length-2 returns-2 same-length-3 same-length-4 returns-3)
+make-move-spec = tie.close (tie.spec enum-told add-t14 enum-told-2 write-cancelled-requires remove-requires enum-known-made add-next at-new-price-requires reprice-requires add-t25 returns same-length same-length-2 returns-2 same-length-3 same-length-4 returns-3)

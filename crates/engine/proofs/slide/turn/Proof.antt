@@ -17,18 +17,18 @@ use Rattle.engine.proofs.slide.turn.Tie as tie
 
 -- the order stands at the position found
 within : (c : tie.After-known-told) → c .before .i .given .0 .0 < length (resting (c .before .before .before .before .before .before .before .args .w .now))
-within c = subst (λ (p : Position). Below p (length (resting (c .before .before .before .before .before .before .before .args .w .now)))) (c .before .i .given .1) (c .before .before .before .find .ensures .below)
+within c = subst (λ (p : Position). Below p (length (resting (c .before .before .before .before .before .before .before .args .w .now)))) (c .before .i .given .1) (c .before .before .before .find-near .ensures .below)
 
 -- its turn is its move
 moved : (c : tie.After-move-in-pass) → let a = c .before .before .before .before .before .before .before .before .before .before .args in let l = resting (a .w .now) in afterMove (c .move-in-pass .result) (c .before .load .result) l (a .stamp) ≡ turnOf (a .m) (a .id) l (a .stamp)
 moved c =
     let a = c .before .before .before .before .before .before .before .before .before .before .args in
     let l = resting (a .w .now) in
-    let e : find (a .id) l ≡ some (c .before .load .result) = sym (c .before .before .before .before .before .before .find .ensures .is) ∙ ap (orderIn l) (c .before .before .before .before .i .given .1) ∙ ap some (sym (c .before .load .ensures)) in
+    let e : find (a .id) l ≡ some (c .before .load .result) = sym (c .before .before .before .before .before .before .find-near .ensures .is) ∙ ap (orderIn l) (c .before .before .before .before .i .given .1) ∙ ap some (sym (c .before .load .ensures)) in
     turn-found (a .m) (a .id) l (a .stamp) (c .before .load .result) (c .move-in-pass .result) e (c .move-in-pass .ensures)
 
-find-requires : tie.Need-find-requires
-find-requires c κs = (c .before .before .before .pre .0 .book, c .before .before .before .pre .0 .rises)
+find-near-requires : tie.Need-find-near-requires
+find-near-requires c κs = (c .before .before .before .pre .0 .book, c .before .before .before .pre .0 .rises)
 
 enum-known-i : tie.Need-enum-known-i
 enum-known-i c = search needs
@@ -44,7 +44,7 @@ returns c =
     let s = c .before .before .before .before .before .before in
     let a = s .args in
     let l = resting (a .w .now) in
-    effect-as (turn-absent (a .m) (a .id) l (a .stamp) (sym (c .before .before .find .ensures .is) ∙ ap (orderIn l) (c .enum-told .given .1))) (record { does = does-none (a .w .now) (a .reports .now) (a .at) (s .pre .0); stamped = refl })
+    effect-as (turn-absent (a .m) (a .id) l (a .stamp) (sym (c .before .before .find-near .ensures .is) ∙ ap (orderIn l) (c .enum-told .given .1))) (record { does = does-none (a .w .now) (a .reports .now) (a .at) (s .pre .0); stamped = refl })
 
 load-requires : tie.Need-load-requires
 load-requires c κs = (c .before .before .before .before .before .before .before .before .pre .0 .book, within (c .before))
@@ -68,4 +68,4 @@ returns-2 : tie.Need-returns-2
 returns-2 c = effect-as (moved (c .before .before .before .before .before .before .before)) (c .before .before .before .before .make-move .ensures)
 
 pub turn-spec : {M : Type 1} → statement M
-turn-spec = tie.close (tie.spec find-requires enum-known-i enum-told same-length returns load-requires move-in-pass-requires make-move-requires same-length-2 same-length-3 returns-2)
+turn-spec = tie.close (tie.spec find-near-requires enum-known-i enum-told same-length returns load-requires move-in-pass-requires make-move-requires same-length-2 same-length-3 returns-2)
