@@ -16,5 +16,5 @@ fn main() {
     let directory = archive.parent().expect("a file lies in a directory");
     println!("cargo:rerun-if-changed={}", archive.display());
     println!("cargo:rustc-link-search=native={}", directory.display());
-    println!("cargo:rustc-link-lib=static=engine");
+    println!("cargo:rustc-link-lib=static=host");
 }

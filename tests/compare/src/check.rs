@@ -7,11 +7,8 @@ use crate::model::{
     Order, RecordCheck, Refusal, Report, ReportWriter, Side, Venue, Watch, BUY, LEAST_BUFFER,
     OPT_OUT, PLACES, SHORT,
 };
-use crate::rng::Rng;
+use crate::sessions::{self, Examiner, Fault};
 use crate::streams::{Session, Step};
-
-/// A claim that failed.
-type Fault = String;
 
 fn ensure(condition: bool, claim: &str) -> Result<(), Fault> {
     if condition {
@@ -23,34 +20,7 @@ fn ensure(condition: bool, claim: &str) -> Result<(), Fault> {
 
 /// Plays sessions until so many events are over. Gives whether all claims held.
 pub fn run(seed: u64, events: u64) -> bool {
-    let mut seeds = Rng::new(seed);
-    let mut counts = Counts::default();
-    let mut lent = Lent::new();
-    while counts.events < events {
-        check_session(seeds.next(), &mut lent, &mut counts);
-    }
-    println!("{counts}");
-    counts.differences == 0
-}
-
-fn check_session(seed: u64, lent: &mut Lent, counts: &mut Counts) {
-    let mut session = Session::new(seed);
-    counts.session(session.kind);
-    let mut checked = Checked::new(&session);
-    let mut step_number = 0;
-    let mut outcome = checked.check_open();
-    while outcome.is_ok() {
-        let Some(step) = session.next(&checked.venue) else {
-            return;
-        };
-        counts.events += 1;
-        step_number += 1;
-        outcome = checked.check_step(&step, lent, counts);
-    }
-    if let Err(fault) = outcome {
-        counts.differ(seed, step_number, &fault);
-        *lent = Lent::new();
-    }
+    sessions::run(seed, events, &mut Checked::new())
 }
 
 /// A venue under check, with the account of its events if it comes from open.
@@ -58,31 +28,23 @@ struct Checked {
     venue: Venue,
     before: Venue,
     account: Option<Account>,
+    lent: Lent,
 }
 
-impl Checked {
-    fn new(session: &Session) -> Self {
-        let venue = session.start.clone();
+impl Examiner for Checked {
+    fn start(&mut self, _: u64, session: &Session, _: &mut Counts) -> Result<(), Fault> {
         let from_open = session.kind.is_from_open();
-        Checked {
-            before: venue.clone(),
-            account: from_open.then(|| Account::new(venue.close)),
-            venue,
-        }
-    }
-
-    fn check_open(&self) -> Result<(), Fault> {
-        let from_open = self.account.is_some();
+        self.venue = session.start.clone();
+        self.account = from_open.then(|| Account::new(self.venue.close));
         let opened = Venue::open(self.venue.close);
         ensure(!from_open || opened.as_ref() == Ok(&self.venue), "open")
     }
 
-    fn check_step(
-        &mut self,
-        step: &Step,
-        lent: &mut Lent,
-        counts: &mut Counts,
-    ) -> Result<(), Fault> {
+    fn venue(&self) -> &Venue {
+        &self.venue
+    }
+
+    fn step(&mut self, step: &Step, counts: &mut Counts) -> Result<(), Fault> {
         let (event, end) = match read_record(step.record, 0) {
             Ok(read) => read,
             Err(refusal) => {
@@ -92,18 +54,18 @@ impl Checked {
         };
         check_round_trip(&event, &step.record[..end], counts.events as usize % 5)?;
         self.before.clone_from(&self.venue);
-        let lent_buffer = lent.lend(step.buffer);
-        match self.venue.apply(&event, lent_buffer, RecordCheck::Done) {
+        let buffer = self.lent.lend(step.buffer);
+        match self.venue.apply(&event, buffer, RecordCheck::Done) {
             Err(refusal) => {
                 counts.refuse(refusal);
                 self.check_refused(&event, refusal)?;
-                ensure(lent.keeps_from(0), "a refused event wrote reports")
+                ensure(self.lent.keeps_from(0), "a refused event wrote reports")
             }
             Ok(count) => {
-                let reports = read_reports(lent.front(count))?;
+                let reports = read_reports(self.lent.front(count))?;
                 counts.accept(count, &reports);
-                ensure(lent.keeps_from(count), "bytes behind the reports")?;
-                lent.restore(count);
+                ensure(self.lent.keeps_from(count), "bytes behind the reports")?;
+                self.lent.restore(count);
                 ensure(count <= LEAST_BUFFER, "16,384 bytes")?;
                 self.check_accepted(&event, &reports)?;
                 if counts.events.is_multiple_of(32) {
@@ -111,6 +73,26 @@ impl Checked {
                 }
                 Ok(())
             }
+        }
+    }
+
+    fn end(&mut self, _: &mut Counts) -> Result<(), Fault> {
+        Ok(())
+    }
+
+    fn recover(&mut self) {
+        self.lent = Lent::new();
+    }
+}
+
+impl Checked {
+    fn new() -> Self {
+        let venue = Venue::fresh(1);
+        Checked {
+            before: venue.clone(),
+            venue,
+            account: None,
+            lent: Lent::new(),
         }
     }
 

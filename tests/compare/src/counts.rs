@@ -8,18 +8,58 @@ use std::fmt;
 /// How many differences are printed in full.
 const MOST_PRINTED: u64 = 10;
 
+/// How often a call was accepted, and how often refused with which number.
+#[derive(Default)]
+struct Answers {
+    accepted: u64,
+    refused: [u64; 17],
+}
+
+impl Answers {
+    fn add<T>(&mut self, answer: Result<T, Refusal>) {
+        match answer {
+            Ok(_) => self.accepted += 1,
+            Err(refusal) => self.refused[refusal as usize] += 1,
+        }
+    }
+}
+
+impl fmt::Display for Answers {
+    fn fmt(&self, f: &mut fmt::Formatter) -> fmt::Result {
+        write!(f, "refusals:")?;
+        for (number, count) in self.refused.iter().enumerate() {
+            if *count > 0 {
+                write!(f, " {number}: {count}")?;
+            }
+        }
+        Ok(())
+    }
+}
+
 #[derive(Default)]
 pub struct Counts {
     pub events: u64,
     pub differences: u64,
     sessions: [u64; Kind::COUNT],
-    opens: u64,
-    opens_refused: [u64; 17],
-    accepted: u64,
+    answers: Answers,
     executions: u64,
     repricings: u64,
     most_bytes: usize,
-    refusals: [u64; 17],
+    #[cfg(feature = "engine")]
+    host: HostCounts,
+}
+
+/// Of the calls other than events.
+#[cfg(feature = "engine")]
+#[derive(Default)]
+struct HostCounts {
+    opens: Answers,
+    copies: Answers,
+    copied: u64,
+    depths: Answers,
+    large_depths: u64,
+    watches: Answers,
+    triggers: u64,
 }
 
 impl Counts {
@@ -27,20 +67,12 @@ impl Counts {
         self.sessions[kind as usize] += 1;
     }
 
-    #[cfg(feature = "engine")]
-    pub fn open(&mut self, refusal: Option<Refusal>) {
-        match refusal {
-            None => self.opens += 1,
-            Some(refusal) => self.opens_refused[refusal as usize] += 1,
-        }
-    }
-
     pub fn refuse(&mut self, refusal: Refusal) {
-        self.refusals[refusal as usize] += 1;
+        self.answers.add::<()>(Err(refusal));
     }
 
     pub fn accept(&mut self, bytes: usize, reports: &[Report]) {
-        self.accepted += 1;
+        self.answers.add(Ok(()));
         self.most_bytes = self.most_bytes.max(bytes);
         for report in reports {
             match report {
@@ -59,34 +91,73 @@ impl Counts {
     }
 }
 
+#[cfg(feature = "engine")]
+impl Counts {
+    pub fn open<T>(&mut self, answer: Result<T, Refusal>) {
+        self.host.opens.add(answer);
+    }
+
+    pub fn copy(&mut self, answer: Result<usize, Refusal>) {
+        self.host.copies.add(answer);
+        self.host.copied += answer.unwrap_or(0) as u64;
+    }
+
+    pub fn depth(&mut self, answer: Result<u64, Refusal>) {
+        self.host.depths.add(answer);
+        self.host.large_depths += u64::from(answer.is_ok_and(|sum| sum > u32::MAX.into()));
+    }
+
+    pub fn watch(&mut self, answer: Result<(), Refusal>, triggers: bool) {
+        self.host.watches.add(answer);
+        self.host.triggers += u64::from(triggers);
+    }
+}
+
+#[cfg(feature = "engine")]
+impl fmt::Display for HostCounts {
+    fn fmt(&self, f: &mut fmt::Formatter) -> fmt::Result {
+        let (opens, copies) = (&self.opens, &self.copies);
+        let (depths, watches) = (&self.depths, &self.watches);
+        writeln!(f, "opens {} {opens}", opens.accepted)?;
+        let records = self.copied;
+        writeln!(f, "copies {} records {records} {copies}", copies.accepted)?;
+        let large = self.large_depths;
+        writeln!(
+            f,
+            "depths {} over 32 bits {large} {depths}",
+            depths.accepted
+        )?;
+        let triggers = self.triggers;
+        writeln!(
+            f,
+            "watches {} triggers {triggers} {watches}",
+            watches.accepted
+        )
+    }
+}
+
 impl fmt::Display for Counts {
     fn fmt(&self, f: &mut fmt::Formatter) -> fmt::Result {
         let [sound, nonsense, damaged, made_up, spoilt] = self.sessions;
         write!(f, "sessions: {sound} sound, {nonsense} nonsense, ")?;
         writeln!(f, "{damaged} damaged, {made_up} made up, {spoilt} spoilt")?;
-        writeln!(f, "events {} accepted {}", self.events, self.accepted)?;
+        writeln!(
+            f,
+            "events {} accepted {}",
+            self.events, self.answers.accepted
+        )?;
         writeln!(
             f,
             "executions {} re-pricings {} most report bytes {}",
             self.executions, self.repricings, self.most_bytes
         )?;
-        if self.opens > 0 {
-            write!(f, "opens {} refusals:", self.opens)?;
-            write_refusals(f, &self.opens_refused)?;
+        writeln!(f, "{}", self.answers)?;
+        #[cfg(feature = "engine")]
+        if self.host.copies.accepted > 0 {
+            write!(f, "{}", self.host)?;
         }
-        write!(f, "refusals:")?;
-        write_refusals(f, &self.refusals)?;
         write!(f, "differences {}", self.differences)
     }
-}
-
-fn write_refusals(f: &mut fmt::Formatter, refusals: &[u64; 17]) -> fmt::Result {
-    for (number, count) in refusals.iter().enumerate() {
-        if *count > 0 {
-            write!(f, " {number}: {count}")?;
-        }
-    }
-    writeln!(f)
 }
 
 /// A report buffer that is full of noise before each event, so that a byte

@@ -1,57 +1,14 @@
 //! The proved engine behind its C functions, and the layout of its words.
 
-use crate::model::{Order, Refusal, Venue, PLACES};
-
-/// Where each field lies: the one place to change if the engine's layout does.
-struct Layout {
-    count: usize,
-    close: usize,
-    phase: usize,
-    bid: usize,
-    last_id: usize,
-    last_stamp: usize,
-    accepted: usize,
-    id: usize,
-    mark: usize,
-    limit: usize,
-    shares: usize,
-    show: usize,
-    life: usize,
-    slide: usize,
-    stamp: usize,
-    price: usize,
-    entry_bid: usize,
-    adjusted: usize,
-    used: usize,
-    clear: usize,
-}
-
-/// The header's fields from its first word, an order's from its own first word.
-const AT: Layout = Layout {
-    count: 0,
-    close: 1,
-    phase: 2,
-    bid: 3,
-    last_id: 4,
-    last_stamp: 5,
-    accepted: 6,
-    id: 0,
-    mark: 1,
-    limit: 2,
-    shares: 3,
-    show: 4,
-    life: 5,
-    slide: 6,
-    stamp: 7,
-    price: 8,
-    entry_bid: 9,
-    adjusted: 10,
-    used: 11,
-    clear: 12,
-};
+use crate::model::{Order, Refusal, Venue, Watch, PLACES};
 
 const HEADER_WORDS: usize = 16;
 const ORDER_WORDS: usize = 13;
+
+/// The place of the count of orders.
+pub const COUNT_AT: usize = 0;
+/// The flags of an order: adjusted, used, clear.
+pub const FLAGS: usize = 3;
 
 /// The words of a venue; a run may be longer.
 pub const VENUE_WORDS: usize = HEADER_WORDS + PLACES * ORDER_WORDS;
@@ -69,7 +26,14 @@ extern "C" {
     ) -> u32;
     fn venue_record_check(bytes: *const u8, len: usize) -> u64;
     fn venue_permitted_price(bid: u32) -> u32;
+    fn venue_copy_out(words: *const u32, words_len: usize, run: *mut Order, run_len: usize) -> u32;
+    fn venue_depth(run: *const Order, run_len: usize, price: u32, side: u32) -> u64;
+    fn venue_watch(watch: *mut Watch, price: u32) -> u32;
 }
+
+/// The header's `struct venue_order` has ten words and three bools, filled up
+/// to a word.
+const _: () = assert!(size_of::<Order>() == 44 && size_of::<Watch>() == 8);
 
 /// Makes the words a fresh venue. Answers as `apply`, with no reports.
 pub fn open(words: &mut [u32], close: u32) -> u32 {
@@ -105,6 +69,27 @@ pub fn permitted_price(bid: u32) -> u32 {
     unsafe { venue_permitted_price(bid) }
 }
 
+/// Copies the orders to the front of the run. Answers refusal × 65,536 + how
+/// many. The words are lent for writing too, so that a write would be seen.
+pub fn copy_out(words: &mut [u32], run: &mut [Order]) -> u32 {
+    // SAFETY: pointers and lengths are those of slices lent for the call.
+    unsafe { venue_copy_out(words.as_mut_ptr(), words.len(), run.as_mut_ptr(), run.len()) }
+}
+
+/// The displayed shares at a price, of buys where the side is 0 and else of
+/// sells; 2^64 - 1 if refused. The run is lent for writing too, so that a write
+/// would be seen.
+pub fn depth(run: &mut [Order], price: u32, side: u32) -> u64 {
+    // SAFETY: pointer and length are those of a slice lent for the call.
+    unsafe { venue_depth(run.as_mut_ptr(), run.len(), price, side) }
+}
+
+/// A tape price for a host's watch. Answers as `apply`, with no reports.
+pub fn watch(watch: &mut Watch, price: u32) -> u32 {
+    // SAFETY: the pointer is that of a record lent for the call.
+    unsafe { venue_watch(watch, price) }
+}
+
 /// The engine's answer that says the same as the model's.
 pub fn answer_of(answer: Result<usize, Refusal>) -> u32 {
     match answer {
@@ -113,15 +98,19 @@ pub fn answer_of(answer: Result<usize, Refusal>) -> u32 {
     }
 }
 
+/// The layout of the header, in whose first word the count of orders stands.
 fn header_of(venue: &Venue) -> [u32; HEADER_WORDS] {
+    let fields = [
+        venue.orders.len() as u32,
+        venue.close,
+        venue.phase,
+        venue.bid,
+        venue.last_id,
+        venue.last_stamp,
+        venue.accepted,
+    ];
     let mut words = [0; HEADER_WORDS];
-    words[AT.count] = venue.orders.len() as u32;
-    words[AT.close] = venue.close;
-    words[AT.phase] = venue.phase;
-    words[AT.bid] = venue.bid;
-    words[AT.last_id] = venue.last_id;
-    words[AT.last_stamp] = venue.last_stamp;
-    words[AT.accepted] = venue.accepted;
+    words[..fields.len()].copy_from_slice(&fields);
     words
 }
 
@@ -132,22 +121,23 @@ pub fn fresh_words(venue: &Venue) -> Vec<u32> {
     words
 }
 
+/// The layout of an order, whose last three words are flags.
 fn words_of(order: &Order) -> [u32; ORDER_WORDS] {
-    let mut words = [0; ORDER_WORDS];
-    words[AT.id] = order.id;
-    words[AT.mark] = order.mark;
-    words[AT.limit] = order.limit;
-    words[AT.shares] = order.shares;
-    words[AT.show] = order.show;
-    words[AT.life] = order.life;
-    words[AT.slide] = order.slide;
-    words[AT.stamp] = order.stamp;
-    words[AT.price] = order.price;
-    words[AT.entry_bid] = order.entry_bid;
-    words[AT.adjusted] = order.adjusted.into();
-    words[AT.used] = order.used.into();
-    words[AT.clear] = order.clear.into();
-    words
+    [
+        order.id,
+        order.mark,
+        order.limit,
+        order.shares,
+        order.show,
+        order.life,
+        order.slide,
+        order.stamp,
+        order.price,
+        order.entry_bid,
+        order.adjusted.into(),
+        order.used.into(),
+        order.clear.into(),
+    ]
 }
 
 /// Writes a venue as words; the places that it doesn't use keep their content.
@@ -173,11 +163,5 @@ pub fn first_difference(venue: &Venue, words: &[u32]) -> Option<(usize, u32, u32
 
 /// The place of a flag word of an order, by the order's and the flag's number.
 pub fn flag_at(order: usize, flag: usize) -> usize {
-    let flags = [AT.adjusted, AT.used, AT.clear];
-    HEADER_WORDS + order * ORDER_WORDS + flags[flag]
-}
-
-/// The place of the count of orders.
-pub fn count_at() -> usize {
-    AT.count
+    HEADER_WORDS + order * ORDER_WORDS + ORDER_WORDS - FLAGS + flag
 }

@@ -11,8 +11,11 @@ mod counts;
 mod engine;
 mod made_up;
 mod model;
+#[cfg(feature = "engine")]
+mod observe;
 mod program;
 mod rng;
+mod sessions;
 mod streams;
 
 use std::io::{self, Read, Write};

@@ -35,6 +35,12 @@ pub fn near(rng: &mut Rng, rung: u32, reach: u32) -> u32 {
     price_of(drawn.clamp(1, RUNGS))
 }
 
+/// A legal price around the highest that triggers the restriction.
+pub fn near_trigger(rng: &mut Rng, close: u32) -> u32 {
+    let trigger = u64::from(close) * 9 / 10;
+    near(rng, rung_of(trigger as u32), 1)
+}
+
 /// A bid at most so many rungs away.
 fn bid_near(rng: &mut Rng, rung: u32, reach: u32) -> u32 {
     near(rng, rung, reach).min(HIGHEST_BID)
@@ -111,8 +117,7 @@ impl Market {
     /// A tape price around the trigger, or around the centre.
     fn tape(&self, rng: &mut Rng, venue: &Venue) -> u32 {
         if rng.one_in(3) {
-            let trigger = u64::from(venue.close) * 9 / 10;
-            near(rng, rung_of(trigger as u32), 1)
+            near_trigger(rng, venue.close)
         } else {
             near(rng, self.centre, self.reach)
         }
@@ -268,19 +273,6 @@ fn large_number(rng: &mut Rng) -> Vec<u8> {
     bytes
 }
 
-/// A fresh venue without looking at the close.
-fn fresh(close: u32) -> Venue {
-    Venue {
-        close,
-        phase: 0,
-        bid: 0,
-        last_id: 0,
-        last_stamp: 0,
-        accepted: 0,
-        orders: Vec::new(),
-    }
-}
-
 #[derive(Clone, Copy, Debug, PartialEq, Eq)]
 pub enum Kind {
     /// Events that make sense.
@@ -337,10 +329,10 @@ impl Session {
         };
         let long = rng.pick(&[50, 400, 1_500]);
         let (start, left, bytes) = match kind {
-            Kind::Sound => (fresh(market.close(&mut rng)), long, Vec::new()),
-            Kind::Nonsense => (fresh(market.close(&mut rng)), long / 2, Vec::new()),
+            Kind::Sound => (Venue::fresh(market.close(&mut rng)), long, Vec::new()),
+            Kind::Nonsense => (Venue::fresh(market.close(&mut rng)), long / 2, Vec::new()),
             Kind::Damaged => {
-                let venue = fresh(market.close(&mut rng));
+                let venue = Venue::fresh(market.close(&mut rng));
                 let bytes = damaged_stream(&mut rng, &market, venue.clone());
                 (venue, u32::MAX, bytes)
             }
@@ -473,7 +465,7 @@ pub fn trace(seed: u64, resting: usize, events: usize) -> Trace {
         quiet_days: u32::MAX,
         marks: MIXED,
     };
-    let mut venue = fresh(100_000);
+    let mut venue = Venue::fresh(100_000);
     let mut buffer = vec![0; LEAST_BUFFER];
     let mut play = |venue: &mut Venue, event: &Event| {
         let answer = venue.apply(event, &mut buffer, RecordCheck::Skipped);

@@ -23,8 +23,10 @@ pub const DAY: u32 = 0;
 pub const IMMEDIATE: u32 = 1;
 
 /// A resting order: the entry's fields and what "The venue adds". "A resting
-/// order's shares are those left."
+/// order's shares are those left." Laid out as include/venue.h says, so that
+/// runs of it can be lent to the engine too.
 #[derive(Clone, Copy, Debug, PartialEq, Eq)]
+#[repr(C)]
 pub struct Order {
     pub id: u32,
     pub mark: u32,
@@ -143,4 +145,65 @@ pub fn depth(run: &[Order], price: u32, side: Side) -> Result<u64, Refusal> {
     };
     let shares = run.iter().filter(counts).map(|order| order.shares);
     Ok(shares.map(u64::from).sum())
+}
+
+#[cfg(test)]
+mod tests {
+    use super::*;
+
+    fn order(id: u32, mark: u32, show: u32) -> Order {
+        Order {
+            id,
+            mark,
+            limit: 90_000,
+            shares: 1_000_000,
+            show,
+            life: DAY,
+            slide: 0,
+            stamp: id,
+            price: 90_000,
+            entry_bid: 0,
+            adjusted: false,
+            used: false,
+            clear: true,
+        }
+    }
+
+    #[test]
+    fn copy_out_refuses_in_order_and_keeps_the_rest() {
+        let venue = Venue {
+            last_id: 2,
+            last_stamp: 2,
+            accepted: 2,
+            orders: vec![order(1, BUY, 1), order(2, BUY, 0)],
+            ..Venue::fresh(100_000)
+        };
+        let noise = order(9, 9, 9);
+        let mut run = [noise; 3];
+        assert_eq!(copy_out(&venue, &mut run[..1]), Err(Refusal::ShortRun));
+        assert_eq!(run, [noise; 3]);
+        assert_eq!(copy_out(&venue, &mut run), Ok(2));
+        assert_eq!(run, [venue.orders[0], venue.orders[1], noise]);
+        let broken = Venue { phase: 3, ..venue };
+        assert_eq!(copy_out(&broken, &mut []), Err(Refusal::VenueRecord));
+    }
+
+    #[test]
+    fn depth_counts_displayed_shares_of_a_side_at_a_price() {
+        let marks = [BUY, 1, SHORT, 3, 4, u32::MAX];
+        let run: Vec<Order> = marks.map(|mark| order(1, mark, 1)).into();
+        assert_eq!(depth(&run, 90_000, Side::Buy), Ok(1_000_000));
+        assert_eq!(depth(&run, 90_000, Side::Sell), Ok(3_000_000));
+        assert_eq!(depth(&run, 90_100, Side::Sell), Ok(0));
+        let shows = [0, 2, u32::MAX].map(|show| order(1, BUY, show));
+        assert_eq!(depth(&shows, 90_000, Side::Buy), Ok(0));
+        let large = Order {
+            shares: u32::MAX,
+            ..order(1, BUY, 1)
+        };
+        let sum = 256 * u64::from(u32::MAX);
+        assert_eq!(depth(&[large; 256], 90_000, Side::Buy), Ok(sum));
+        let long = depth(&[large; 257], 90_000, Side::Buy);
+        assert_eq!(long, Err(Refusal::LongRun));
+    }
 }

@@ -56,8 +56,10 @@ pub fn phase_after_day_end(phase: u32) -> u32 {
     }
 }
 
-/// "the host's own watch record (close, phase)"
+/// "the host's own watch record (close, phase)", laid out as include/venue.h
+/// says.
 #[derive(Clone, Copy, Debug, PartialEq, Eq)]
+#[repr(C)]
 pub struct Watch {
     pub close: u32,
     pub phase: u32,
@@ -90,5 +92,26 @@ mod tests {
         assert_eq!(phase_after_tape(0, 100_000, 90_100), 0);
         assert_eq!(phase_after_tape(0, 9_999, 8_999), 1);
         assert_eq!(phase_after_tape(0, 9_999, 9_000), 0);
+    }
+
+    #[test]
+    fn a_watch_takes_any_close_and_phase_and_only_legal_prices() {
+        let cases = [
+            ((100_000, 0), 90_000, Ok(()), 1),
+            ((100_000, 0), 90_100, Ok(()), 0),
+            ((u32::MAX, 0), HIGHEST, Ok(()), 1),
+            ((0, 0), 1, Ok(()), 0),
+            ((100_000, 1), 1, Ok(()), 1),
+            ((100_000, 2), 1, Ok(()), 2),
+            ((100_000, 7), 1, Ok(()), 7),
+            ((100_000, 0), 0, Err(Refusal::Price), 0),
+            ((100_000, 0), 10_001, Err(Refusal::Price), 0),
+        ];
+        for ((close, phase), price, answer, after) in cases {
+            let mut watch = Watch { close, phase };
+            assert_eq!(watch_tape(&mut watch, price), answer);
+            let phase = after;
+            assert_eq!(watch, Watch { close, phase });
+        }
     }
 }

@@ -56,10 +56,13 @@ impl Venue {
     /// "Open takes a close: 3 if it isn't legal; no venue is made. Fresh: phase
     /// 0, bid 0, no orders, last id, last stamp and accepted events 0."
     pub fn open(close: u32) -> Result<Venue, Refusal> {
-        if !is_legal(close) {
-            return Err(Refusal::Price);
-        }
-        Ok(Venue {
+        refuse_unless(is_legal(close), Refusal::Price)?;
+        Ok(Venue::fresh(close))
+    }
+
+    /// A fresh venue without looking at the close.
+    pub fn fresh(close: u32) -> Venue {
+        Venue {
             close,
             phase: 0,
             bid: 0,
@@ -67,7 +70,7 @@ impl Venue {
             last_stamp: 0,
             accepted: 0,
             orders: Vec::with_capacity(PLACES),
-        })
+        }
     }
 
     /// Whether the venue record keeps every condition of refusal 16.

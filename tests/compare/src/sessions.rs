@@ -1,0 +1,53 @@
+//! Sessions, played one after the other until enough events are over.
+
+use crate::counts::Counts;
+use crate::model::Venue;
+use crate::rng::Rng;
+use crate::streams::{Session, Step};
+
+/// What differs, or a claim that failed.
+pub type Fault = String;
+
+/// One who looks at sessions, event by event.
+pub trait Examiner {
+    fn start(&mut self, seed: u64, session: &Session, counts: &mut Counts) -> Result<(), Fault>;
+
+    /// The venue as it stands, for which the next event is made.
+    fn venue(&self) -> &Venue;
+
+    fn step(&mut self, step: &Step, counts: &mut Counts) -> Result<(), Fault>;
+
+    /// After the last event.
+    fn end(&mut self, counts: &mut Counts) -> Result<(), Fault>;
+
+    /// Throws away the buffers that a fault may have spoilt.
+    fn recover(&mut self);
+}
+
+/// Plays sessions until so many events are over, the rest of a session with a
+/// fault left out. Prints the counts and gives whether there was no fault.
+pub fn run(seed: u64, events: u64, examiner: &mut impl Examiner) -> bool {
+    let mut seeds = Rng::new(seed);
+    let mut counts = Counts::default();
+    while counts.events < events {
+        let seed = seeds.next();
+        let before = counts.events;
+        if let Err(fault) = play(seed, examiner, &mut counts) {
+            counts.differ(seed, counts.events - before, &fault);
+            examiner.recover();
+        }
+    }
+    println!("{counts}");
+    counts.differences == 0
+}
+
+fn play(seed: u64, examiner: &mut impl Examiner, counts: &mut Counts) -> Result<(), Fault> {
+    let mut session = Session::new(seed);
+    counts.session(session.kind);
+    examiner.start(seed, &session, counts)?;
+    while let Some(step) = session.next(examiner.venue()) {
+        counts.events += 1;
+        examiner.step(&step, counts)?;
+    }
+    examiner.end(counts)
+}
