@@ -97,17 +97,17 @@ chain-end {w} {s} {n} {at} c h = let e : at ≡ 0 = omega arith in c.same ∙ ap
 -- the heads and links after n places
 
 pub record Chains (w heads links : List ℕ) (n : ℕ) : Type 0 where
-  pub lasts : (b : ℕ) → b < 256 → getD heads b 0 ≡ lastIn w b n
+  pub lasts : (b : ℕ) → b < 512 → getD heads b 0 ≡ lastIn w b n
   pub linked : Linked w links n
 
-pub chains-start : (w links : List ℕ) → Chains w (replicate 256 0) links 0
+pub chains-start : (w links : List ℕ) → Chains w (replicate 512 0) links 0
 unfolding lastIn
 chains-start w links =
-    record { lasts = λ b h. getD-replicate 256 b 0 0 h; linked = λ j h. absurd (not-suc-le-zero h) }
+    record { lasts = λ b h. getD-replicate 512 b 0 0 h; linked = λ j h. absurd (not-suc-le-zero h) }
 
-pub chains-more : (w heads links : List ℕ) (n s b last : ℕ) → Chains w heads links n → s ≡ stampAt w n → b ≡ bucketOf s → last ≡ getD heads b 0 → b < length heads → n < length links → length heads ≡ 256 → Chains w (set heads b (n + 1)) (set links n last) (n + 1)
+pub chains-more : (w heads links : List ℕ) (n s b last : ℕ) → Chains w heads links n → s ≡ stampAt w n → b ≡ bucketOf s → last ≡ getD heads b 0 → b < length heads → n < length links → length heads ≡ 512 → Chains w (set heads b (n + 1)) (set links n last) (n + 1)
 unfolding lastIn
-chains-more w heads links n s b last c es eb el hb hn h256 =
+chains-more w heads links n s b last c es eb el hb hn h512 =
     let e : bucketOf (stampAt w n) ≡ b = ap bucketOf (sym es) ∙ sym eb in
     record {
       lasts =

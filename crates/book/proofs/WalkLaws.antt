@@ -17,7 +17,7 @@ pub record Walked (lastId lastStamp : ℕ) (w heads links : List ℕ) (i : ℕ) 
   pub long : venueWords ≤ length w
   pub few : getD w 0 0 ≤ 256
   pub inside : i ≤ getD w 0 0
-  pub headCount : length heads ≡ 256
+  pub headCount : length heads ≡ 512
   pub linkCount : length links ≡ 256
   pub chains : Chains w heads links i
   pub sound : (j : ℕ) → j < i → T (soundAt lastId lastStamp w j)
@@ -38,13 +38,13 @@ no true f = absurd (f tt)
 no false f = refl
 
 module _ (lastId lastStamp : ℕ) (w : List ℕ) where
-  pub walked-start : venueWords ≤ length w → getD w 0 0 ≤ 256 → Walked lastId lastStamp w (replicate 256 0) (replicate 256 0) 0
+  pub walked-start : venueWords ≤ length w → getD w 0 0 ≤ 256 → Walked lastId lastStamp w (replicate 512 0) (replicate 256 0) 0
   walked-start l f =
       record {
         long = l;
         few = f;
         inside = zero-le;
-        headCount = length-replicate {A = ℕ} 256 0;
+        headCount = length-replicate {A = ℕ} 512 0;
         linkCount = length-replicate {A = ℕ} 256 0;
         chains = chains-start w (replicate 256 0);
         sound = λ j h. absurd (not-suc-le-zero h);

@@ -33,7 +33,7 @@ stampSeen w s zero = false
 stampSeen w s (suc n) = eqb (stampAt w n) s || stampSeen w s n
 
 abbrev pub bucketOf : ℕ → ℕ
-bucketOf s = s % 256
+bucketOf s = s % 512
 
 -- the last of the first n places whose stamp is in bucket b, counted from 1; 0 where there is none
 unfoldable pub lastIn : List ℕ → ℕ → ℕ → ℕ

@@ -12,7 +12,7 @@ pub const VENUE: usize = 3344;
 
 pub const PLACES: usize = 256;
 
-const BUCKETS: u32 = 256;
+const BUCKETS: u32 = 512;
 
 pub const MOST_SHARES: u32 = 1_000_000;
 
@@ -120,13 +120,13 @@ fn place_sound(w: &[u32], i: usize, before: u32, last_id: u32, last_stamp: u32) 
 }
 
 // Whether one of the first n places has the stamp, along the chain of its bucket from the last such place, counted from 1.
-fn stamp_seen(w: &[u32], links: &[u32; 256], n: usize, last: u32, stamp: u32) -> bool
+fn stamp_seen(w: &[u32], links: &[u16; 256], n: usize, last: u16, stamp: u32) -> bool
     requires { ⌜ (venueWords ≤ length (now w)) × (n ≤ 256) × Linked (now w) (now links) n × (last ≡ lastIn (now w) (bucketOf stamp) n) ⌝ }
     ensures { λ r. ⌜ r ≡ stampSeen (now (w .entry)) stamp n ⌝ }
 {
     let mut at = last;
     while at > 0 {
-        let j = words::wide(at - 1);
+        let j = (at - 1) as usize;
         if words::word_at(w, j, words::STAMP) == stamp {
             return true;
         }
@@ -147,8 +147,8 @@ pub fn is_sound(w: &[u32], last_id: u32, last_stamp: u32) -> bool
     if n > PLACES {
         return false;
     }
-    let mut heads = [0u32; 256];
-    let mut links = [0u32; 256];
+    let mut heads = [0u16; 512];
+    let mut links = [0u16; 256];
     let mut before = 0;
     let mut i = 0;
     while i < n {
@@ -162,7 +162,7 @@ pub fn is_sound(w: &[u32], last_id: u32, last_stamp: u32) -> bool
             return false;
         }
         links[i] = last;
-        heads[bucket] = (i + 1) as u32;
+        heads[bucket] = (i + 1) as u16;
         before = words::word_at(w, i, words::ID);
         i += 1;
     }

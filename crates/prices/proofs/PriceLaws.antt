@@ -85,27 +85,26 @@ unfolding isBid
 bid-in b (inl z) = T-inl (eqb b 0) _ (eq→T z)
 bid-in b (inr l) = T-inr (eqb b 0) _ (T-and (legal b) _ (legal-in b (l .0)) (le→leb b highestBid (l .1)))
 
-pub bid-whole : (b : ℕ) → b ≤ highestBid → b % step ≡ 0 → true ≡ isBid b
-bid-whole b h e = bool-ext _ _ (λ t. bid-in b (go (decLe 1 b))) (λ t. tt)
+pub bid-whole : (b : ℕ) → b % step ≡ 0 → leb b highestBid ≡ isBid b
+bid-whole b e = bool-ext _ _ (λ t. bid-in b (go (leb→le b highestBid t) (decLe 1 b))) (λ t. out (bid-out b t))
   where
-    go : Dec (1 ≤ b) → (b ≡ 0) ⊎ (Legal b × (b ≤ highestBid))
-    go (yes l) = inr (record { low = l; high = omega arith; onStep = inr e }, h)
-    go (no l) = inl (omega arith)
+    go : b ≤ highestBid → Dec (1 ≤ b) → (b ≡ 0) ⊎ (Legal b × (b ≤ highestBid))
+    go h (yes l) = inr (record { low = l; high = omega arith; onStep = inr e }, h)
+    go h (no l) = inl (omega arith)
 
-pub bid-other : (b : ℕ) → b ≤ highestBid → (b % step ≡ 0 → ⊥) → ltb b dollarBorder ≡ isBid b
-bid-other b h n =
-    bool-ext _ _ (λ t. bid-in b (inr (record { low = not-whole b n; high = omega arith; onStep = inl (leb→le (suc b) dollarBorder t) }, h))) (λ t. out (bid-out b t))
+    out : (b ≡ 0) ⊎ (Legal b × (b ≤ highestBid)) → T (leb b highestBid)
+    out (inl z) = le→leb b highestBid (omega arith)
+    out (inr l) = le→leb b highestBid (l .1)
+
+pub bid-other : (b : ℕ) → (b % step ≡ 0 → ⊥) → ltb b dollarBorder ≡ isBid b
+bid-other b n = bool-ext _ _ (λ t. bid-in b (inr (go (leb→le (suc b) dollarBorder t)))) (λ t. out (bid-out b t))
   where
+    go : b < dollarBorder → Legal b × (b ≤ highestBid)
+    go l = (record { low = not-whole b n; high = omega arith; onStep = inl l }, omega arith)
+
     out : (b ≡ 0) ⊎ (Legal b × (b ≤ highestBid)) → T (ltb b dollarBorder)
     out (inl z) = le→leb (suc b) dollarBorder (omega arith)
     out (inr l) = below b n (l .0 .onStep)
-
-pub bid-beyond : (b : ℕ) → highestBid < b → false ≡ isBid b
-bid-beyond b h = bool-ext _ _ (λ t. absurd t) (λ t. absurd (out (bid-out b t)))
-  where
-    out : (b ≡ 0) ⊎ (Legal b × (b ≤ highestBid)) → ⊥
-    out (inl z) = omega arith
-    out (inr l) = omega (arith, l .1)
 
 pub no-bid : T (isBid 0)
 unfolding isBid

@@ -42,11 +42,8 @@ pub fn is_legal(value: u32) -> bool
 pub fn is_bid(value: u32) -> bool
     ensures { λ r. ⌜ r ≡ isBid value ⌝ }
 {
-    if value > HIGHEST_BID {
-        return false;
-    }
     if value % STEP == 0 {
-        return true;
+        return value <= HIGHEST_BID;
     }
     value < Price::DOLLAR_BORDER
 }

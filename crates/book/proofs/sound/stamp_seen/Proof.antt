@@ -1,9 +1,6 @@
 -- The loop of `stamp_seen`: the stamp was seen where it was among the places up to this one. Assumes nothing.
 use borrow.Author.Needs.{needs}
-use Prim.Native.Nat.{ℕ, _<_}
-use mathlib.Core.Path.{sym, ap, _∙_, subst}
-use lib.ListN.{getD}
-use Rattle.book.specs.RecordWalk.{stampAt}
+use mathlib.Core.Path.{sym, _∙_}
 use Rattle.book.proofs.StampLaws.{ChainAt, chain-start, chain-hit, chain-next, chain-shorter, chain-end}
 use Rattle.book.proofs.sound.stamp_seen.Statement.{statement}
 use Rattle.book.proofs.sound.stamp_seen.Tie as tie
@@ -17,17 +14,17 @@ abbrev μ-loop : tie.MeasureT-loop
 loop-holds : tie.Need-loop-holds Inv-loop μ-loop
 loop-holds c = let s = c .before in chain-start (s .args .w .now) (s .args .stamp) (s .args .n) (s .args .last) (s .pre .3)
 
-sub-wide : tie.Need-sub-wide Inv-loop μ-loop
-sub-wide c = search needs
+sub-j : tie.Need-sub-j Inv-loop μ-loop
+sub-j c = search needs
 
-wide-requires : tie.Need-wide-requires Inv-loop μ-loop
-wide-requires c κs = search needs
+cast-j : tie.Need-cast-j Inv-loop μ-loop
+cast-j c = search needs
 
 word-at-requires : tie.Need-word-at-requires Inv-loop μ-loop
 word-at-requires c κs = search needs
 
 returns : tie.Need-returns Inv-loop μ-loop
-returns c = let s = c .before .before .before .before .before .before in sym (chain-hit (c .before .before .before .before .loop .inv) (c .before .before .before .loop-test .taken) (ap (stampAt (s .args .w .now)) (sym (c .before .before .wide .ensures)) ∙ sym (c .before .word-at .ensures) ∙ c .if1 .taken))
+returns c = sym (chain-hit (c .before .before .before .loop .inv) (c .before .before .loop-test .taken) (sym (c .before .word-at .ensures) ∙ c .if1 .taken))
 
 mul-at : tie.Need-mul-at Inv-loop μ-loop
 mul-at c = search needs
@@ -36,10 +33,10 @@ element-copy-out-at : tie.Need-element-copy-out-at Inv-loop μ-loop
 element-copy-out-at c = search needs
 
 loop-less : tie.Need-loop-less Inv-loop μ-loop
-loop-less c = let s = c .before .before .before .before .before .before .before in let at = c .before .before .before .before .before .loop in subst (λ (j : ℕ). getD (s .args .links .now) j 0 < at .at) (sym (c .before .before .before .wide .ensures)) (chain-shorter (at .inv) (c .before .before .before .before .loop-test .taken) (s .args .links .now) (s .pre .2))
+loop-less c = let s = c .before .before .before .before .before .before in let at = c .before .before .before .before .loop in chain-shorter (at .inv) (c .before .before .before .loop-test .taken) (s .args .links .now) (s .pre .2)
 
 loop-again : tie.Need-loop-again Inv-loop μ-loop
-loop-again c = let s = c .before .before .before .before .before .before .before in let at = c .before .before .before .before .before .loop in subst (λ (j : ℕ). ChainAt (s .args .w .now) (s .args .stamp) (s .args .n) (getD (s .args .links .now) j 0)) (sym (c .before .before .before .wide .ensures)) (chain-next (at .inv) (c .before .before .before .before .loop-test .taken) (s .args .links .now) (s .pre .2) (λ e. c .before .if1 .left (c .before .before .word-at .ensures ∙ ap (stampAt (s .args .w .now)) (c .before .before .before .wide .ensures) ∙ e)))
+loop-again c = let s = c .before .before .before .before .before .before in let at = c .before .before .before .before .loop in chain-next (at .inv) (c .before .before .before .loop-test .taken) (s .args .links .now) (s .pre .2) (λ e. c .before .if1 .left (c .before .before .word-at .ensures ∙ e))
 
 returns-2 : tie.Need-returns-2 Inv-loop μ-loop
 returns-2 c = sym (chain-end (c .before .loop .inv) (c .loop-test .left))
@@ -51,8 +48,8 @@ stamp-seen-spec =
     Inv-loop
     μ-loop
     loop-holds
-    sub-wide
-    wide-requires
+    sub-j
+    cast-j
     word-at-requires
     returns
     mul-at
