@@ -16,7 +16,7 @@ use Rattle.book.specs.declared.Position.the-variants.{At, Absent}
 use Rattle.book.specs.Orders.{reduced, without}
 use Rattle.book.specs.Matching.{reaches, better, betterOf, bestFrom, best, afterTrade}
 use Rattle.book.specs.Words.{emptyOrder}
-use Rattle.book.specs.Positions.{removeAt, insertAt, orderIn, Below, considered}
+use Rattle.book.specs.Positions.{removeAt, insertAt, orderIn, considered}
 use Rattle.book.proofs.OrderLaws.{without-other}
 use Rattle.book.proofs.RisingLaws.{Rises, rises-without, rises-insert}
 use Rattle.book.proofs.PositionLaws.{id-above, without-at, set-at, bestFrom-at}
@@ -75,10 +75,6 @@ module _ (w : Order) (l : List Order) (i : ℕ) where
   pub consider-unreached : (f : Position) → reaches w (getD l i emptyOrder) ≡ false → considered w l f i ≡ orderIn l f
   unfolding pick
   consider-unreached f r = rw r
-
-pub below-later : (f : Position) (m n : ℕ) → m ≤ n → Below f m → Below f n
-below-later (At i) m n h p = omega arith
-below-later Absent m n h p = tt
 
 -- and all of them
 

@@ -1,15 +1,16 @@
 -- The book's steps by position, and where a search found an order. Assumes nothing.
-use Prim.Native.Nat.{ℕ, zero, suc, _<_}
+use Prim.Native.Nat.{ℕ, zero, suc, _≤_, _<_}
 use mathlib.Core.Path.{_≡_}
+use mathlib.Core.Bool.{true}
 use mathlib.Core.List.{List, [], _∷_}
 use mathlib.Core.Option.{Option, none, some}
 use lib.Dec.{ltb}
-use lib.ListN.{length, getD}
+use lib.ListN.{length, getD, drop}
 use Rattle.numbers.specs.Tests.{pick}
 use Rattle.book.specs.declared.Order.{Order}
 use Rattle.book.specs.declared.Position.{Position}
 use Rattle.book.specs.declared.Position.the-variants.{At, Absent}
-use Rattle.book.specs.Matching.{reaches, betterOf}
+use Rattle.book.specs.Matching.{reaches, betterOf, bestFrom, best}
 use Rattle.book.specs.Words.{emptyOrder}
 
 abbrev pub removeAt {ℓ} : {A : Type ℓ} → ℕ → List A → List A
@@ -53,3 +54,9 @@ Found l r o = IsAt l r (length l) o
 -- the better of the best so far and the order at i, for the working order w
 abbrev pub considered : Order → List Order → Position → ℕ → Option Order
 considered w l r i = pick (reaches w (getD l i emptyOrder)) (betterOf w (orderIn l r) (getD l i emptyOrder)) (orderIn l r)
+
+-- no order before position r is reached by w, and the one there is, if there is one
+pub record FirstReached (w : Order) (l : List Order) (r : ℕ) : Type 0 where
+  pub inside : r ≤ length l
+  pub rest : best w l ≡ bestFrom w none (drop r l)
+  pub reached : r < length l → reaches w (getD l r emptyOrder) ≡ true

@@ -9,7 +9,8 @@ ghost use lib.ListN.{length};
 ghost use Rattle.numbers.specs.Tests.{pick};
 ghost use Rattle.book.specs.Matching;
 ghost use Rattle.book.specs.Words.{resting, Book};
-ghost use Rattle.book.specs.Positions.{Below, IsAt, Found, considered};
+ghost use Rattle.book.specs.declared.Position.the-variants.{At};
+ghost use Rattle.book.specs.Positions.{IsAt, Found, FirstReached, considered};
 
 // Whether the working order o reaches the resting order x.
 fn reaches(o: Order, x: Order) -> bool
@@ -56,25 +57,34 @@ fn better(o: Order, a: Order, b: Order) -> bool
     false
 }
 
-// The better of the best so far and the order at position i.
-fn consider(w: &[u32], o: Order, found: Position, i: usize) -> Position
-    requires { ⌜ Book (now w) × Below found i × (i < length (resting (now w))) ⌝ }
-    ensures { λ r. ⌜ IsAt (resting (now (w .entry))) r (i + 1) (considered o (resting (now (w .entry))) found i) ⌝ }
+// The position of the first order that o reaches, or the number of orders.
+fn first_reached(w: &[u32], o: Order) -> usize
+    requires { ⌜ Book (now w) ⌝ }
+    ensures { λ r. ⌜ FirstReached o (resting (now (w .entry))) r ⌝ }
+{
+    let n = words::count(w);
+    let mut i = 0;
+    while i < n {
+        if reaches(o, words::load(w, i)) {
+            return i;
+        }
+        i += 1;
+    }
+    n
+}
+
+// The better of the best so far, which is at position b, and the order at position i.
+fn consider(w: &[u32], o: Order, b: usize, i: usize) -> usize
+    requires { ⌜ Book (now w) × (b < i) × (i < length (resting (now w))) ⌝ }
+    ensures { λ r. ⌜ IsAt (resting (now (w .entry))) (At r) (i + 1) (considered o (resting (now (w .entry))) (At b) i) ⌝ }
 {
     let x = words::load(w, i);
     if reaches(o, x) {
-        return match found {
-            Position::Absent => Position::At(i),
-            Position::At(b) => {
-                if better(o, x, words::load(w, b)) {
-                    Position::At(i)
-                } else {
-                    Position::At(b)
-                }
-            },
-        };
+        if better(o, x, words::load(w, b)) {
+            return i;
+        }
     }
-    found
+    b
 }
 
 // The best order that o reaches.
@@ -83,11 +93,14 @@ pub fn best(w: &[u32], o: Order) -> Position
     ensures { λ r. ⌜ Found (resting (now (w .entry))) r (Matching.best o (resting (now (w .entry)))) ⌝ }
 {
     let n = words::count(w);
-    let mut found = Position::Absent;
-    let mut i = 0;
+    let mut b = first_reached(w, o);
+    if b >= n {
+        return Position::Absent;
+    }
+    let mut i = b + 1;
     while i < n {
-        found = consider(w, o, found, i);
+        b = consider(w, o, b, i);
         i += 1;
     }
-    found
+    Position::At(b)
 }
