@@ -4,7 +4,7 @@ use crate::Order;
 use crate::Side;
 ghost use mathlib.Core.Path.{_≡_};
 ghost use Prim.Native.Nat.{_+_, _<_, _≤_, _^_};
-ghost use Rattle.book.specs.Depth.{onSide, sharesShown, depthOutcome, depthOf, outcomeOfDepth, recordsRead};
+ghost use Rattle.book.specs.rules.Depth.{onSide, sharesShown, depthOutcome, depthOf, outcomeOfDepth, recordsRead};
 
 const MOST_RECORDS: usize = 256;
 
@@ -19,7 +19,7 @@ fn on_side(mark: u32, side: Side) -> bool
 
 // Whether the shares of an order count.
 fn counts(o: Order, price: u32, side: Side) -> bool
-    ensures { λ r. ⌜ r ≡ Rattle.book.specs.Depth.counts price side o ⌝ }
+    ensures { λ r. ⌜ r ≡ Rattle.book.specs.rules.Depth.counts price side o ⌝ }
 {
     if o.show == 1 {
         if o.price == price {

@@ -6,11 +6,12 @@ ghost use mathlib.Core.Path.{_≡_};
 ghost use Prim.Native.Nat.{_+_, _*_, _<_, _≤_};
 ghost use lib.Dec.{T};
 ghost use lib.ListN.{length, getD, set};
-ghost use Rattle.book.specs.Orders;
-ghost use Rattle.book.specs.Sound.{idsRise};
-ghost use Rattle.book.specs.Words.{emptyOrder, resting, Book, Holds};
-ghost use Rattle.book.specs.WordSteps.{ShiftedDown, ShiftedUp};
-ghost use Rattle.book.specs.Positions.{removeAt, insertAt};
+ghost use Rattle.book.specs.rules.Orders;
+ghost use Rattle.book.specs.rules.Sound.{idsRise};
+ghost use Rattle.book.specs.rules.Words.{emptyOrder, resting};
+ghost use Rattle.book.specs.steps.BookSteps.{Book, Holds};
+ghost use Rattle.book.specs.steps.WordSteps.{ShiftedDown, ShiftedUp};
+ghost use Rattle.book.specs.steps.Positions.{removeAt, insertAt};
 
 // Moves n words, behind the first thirteen, down by thirteen. The words start at index 0, so that the compiler makes it one move.
 fn shift_down(s: &mut [u32], n: usize)

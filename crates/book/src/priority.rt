@@ -7,10 +7,11 @@ ghost use Prim.Native.Nat.{_+_, _<_};
 ghost use lib.Dec.{ltb, eqb};
 ghost use lib.ListN.{length};
 ghost use Rattle.numbers.specs.Tests.{pick};
-ghost use Rattle.book.specs.Matching;
-ghost use Rattle.book.specs.Words.{resting, Book};
+ghost use Rattle.book.specs.rules.Matching;
+ghost use Rattle.book.specs.rules.Words.{resting};
+ghost use Rattle.book.specs.steps.BookSteps.{Book};
 ghost use Rattle.book.specs.declared.Position.the-variants.{At};
-ghost use Rattle.book.specs.Positions.{IsAt, Found, FirstReached, considered};
+ghost use Rattle.book.specs.steps.Positions.{IsAt, Found, FirstReached, considered};
 
 // Whether the working order o reaches the resting order x.
 fn reaches(o: Order, x: Order) -> bool

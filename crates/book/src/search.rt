@@ -5,10 +5,11 @@ ghost use mathlib.Core.Path.{_≡_};
 ghost use Prim.Native.Nat.{_<_};
 ghost use lib.Dec.{T};
 ghost use lib.ListN.{length, getD};
-ghost use Rattle.book.specs.Orders;
-ghost use Rattle.book.specs.Sound.{idsRise};
-ghost use Rattle.book.specs.Words.{emptyOrder, resting, Book};
-ghost use Rattle.book.specs.Positions.{rankOf, firstAbove, Found};
+ghost use Rattle.book.specs.rules.Orders;
+ghost use Rattle.book.specs.rules.Sound.{idsRise};
+ghost use Rattle.book.specs.rules.Words.{emptyOrder, resting};
+ghost use Rattle.book.specs.steps.BookSteps.{Book};
+ghost use Rattle.book.specs.steps.Positions.{rankOf, firstAbove, Found};
 
 // The id of the order at position i.
 pub fn id_at(w: &[u32], i: usize) -> u32

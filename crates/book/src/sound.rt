@@ -4,9 +4,9 @@ use prices::increments;
 ghost use mathlib.Core.Path.{_≡_};
 ghost use Prim.Native.Nat.{_<_, _≤_};
 ghost use lib.ListN.{length};
-ghost use Rattle.book.specs.Sound.{slideAllowed, soundOrder};
-ghost use Rattle.book.specs.Words.{venueWords, word, orderAt, soundBook};
-ghost use Rattle.book.specs.RecordWalk.{fromOne, codesSound, pricesSound, bitsAt, idBefore, bucketOf, stampSeen, lastIn, Linked, soundAt};
+ghost use Rattle.book.specs.rules.Sound.{slideAllowed, soundOrder};
+ghost use Rattle.book.specs.rules.Words.{venueWords, word, orderAt, soundBook};
+ghost use Rattle.book.specs.steps.RecordWalk.{fromOne, codesSound, pricesSound, bitsAt, idBefore, bucketOf, stampSeen, lastIn, Linked, soundAt};
 
 pub const VENUE: usize = 3344;
 

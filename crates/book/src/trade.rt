@@ -6,10 +6,11 @@ ghost use mathlib.Core.Path.{_≡_};
 ghost use Prim.Native.Nat.{_<_, _≤_};
 ghost use lib.Dec.{T};
 ghost use lib.ListN.{length, getD};
-ghost use Rattle.book.specs.Orders.{reduced};
-ghost use Rattle.book.specs.Matching.{afterTrade};
-ghost use Rattle.book.specs.Sound.{idsRise};
-ghost use Rattle.book.specs.Words.{emptyOrder, resting, Book, Holds};
+ghost use Rattle.book.specs.rules.Orders.{reduced};
+ghost use Rattle.book.specs.rules.Matching.{afterTrade};
+ghost use Rattle.book.specs.rules.Sound.{idsRise};
+ghost use Rattle.book.specs.rules.Words.{emptyOrder, resting};
+ghost use Rattle.book.specs.steps.BookSteps.{Book, Holds};
 
 // The order with q shares less.
 pub fn reduce(o: Order, q: u32) -> Order

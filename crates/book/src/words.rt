@@ -4,8 +4,9 @@ ghost use mathlib.Core.Path.{_≡_};
 ghost use Prim.Native.Nat.{_+_, _*_, _<_, _≤_};
 ghost use mathlib.Core.List.{[]};
 ghost use lib.ListN.{length, getD};
-ghost use Rattle.book.specs.Words.{venueWords, flagWord, emptyOrder, word, resting, Book, Holds, HeaderSet};
-ghost use Rattle.book.specs.WordSteps.{Row, Copied, Stored};
+ghost use Rattle.book.specs.rules.Words.{venueWords, flagWord, emptyOrder, word, resting};
+ghost use Rattle.book.specs.steps.BookSteps.{Book, Holds, HeaderSet};
+ghost use Rattle.book.specs.steps.WordSteps.{Row, Copied, Stored};
 
 // The header words, and the words of an order.
 const HEADER: usize = 16;

@@ -5,7 +5,7 @@ use book::Order;
 use book::words;
 ghost use mathlib.Core.Path.{_≡_};
 ghost use lib.ListN.{length};
-ghost use Rattle.engine.specs.Copy.{copyOutcome, copied, outcomeOfCopy, filledBy};
+ghost use Rattle.engine.specs.rules.Copy.{copyOutcome, copied, outcomeOfCopy, filledBy};
 
 fn copy_answer(w: &[u32], records: usize) -> CopyAnswer
     ensures { λ r. ⌜ outcomeOfCopy r ≡ copyOutcome (now (w .entry)) records ⌝ }

@@ -8,10 +8,11 @@ use book::words;
 ghost use mathlib.Core.Path.{_≡_};
 ghost use Prim.Native.Nat.{_+_, _<_};
 ghost use lib.ListN.{length};
-ghost use Rattle.book.specs.Words.{resting};
+ghost use Rattle.book.specs.rules.Words.{resting};
 ghost use Rattle.engine.specs.declared.Event.the-variants.{Entry as entry};
-ghost use Rattle.engine.specs.Working.{orderOf};
-ghost use Rattle.engine.specs.Memory.{venueOf, Room, effectIn, MayAccept, Accepts};
+ghost use Rattle.engine.specs.rules.Working.{orderOf};
+ghost use Rattle.engine.specs.steps.Memory.{Room, effectIn, MayAccept, Accepts};
+ghost use Rattle.engine.specs.rules.Layout.{venueOf};
 
 // The order of an entry, with the next stamp.
 fn next_order(w: &[u32], e: Entry) -> Order

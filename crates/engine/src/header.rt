@@ -3,9 +3,10 @@ use crate::Market;
 use book::words;
 ghost use mathlib.Core.Path.{_≡_};
 ghost use Prim.Native.Nat.{_<_};
-ghost use Rattle.book.specs.Words.{Book};
-ghost use Rattle.engine.specs.Sound.{mostEvents};
-ghost use Rattle.engine.specs.Memory.{venueOf, Ordered, Becomes, inMarket, finished};
+ghost use Rattle.book.specs.steps.BookSteps.{Book};
+ghost use Rattle.engine.specs.rules.Sound.{mostEvents};
+ghost use Rattle.engine.specs.steps.Memory.{Ordered, Becomes, inMarket, finished};
+ghost use Rattle.engine.specs.rules.Layout.{venueOf};
 
 pub(crate) const CLOSE: usize = 1;
 

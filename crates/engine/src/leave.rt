@@ -10,12 +10,13 @@ ghost use mathlib.Core.Path.{_≡_};
 ghost use Prim.Native.Nat.{_<_};
 ghost use lib.ListN.{length, getD};
 ghost use Rattle.numbers.specs.SevenBit.{Put};
-ghost use Rattle.book.specs.Words.{emptyOrder, resting, Book};
+ghost use Rattle.book.specs.rules.Words.{emptyOrder, resting};
+ghost use Rattle.book.specs.steps.BookSteps.{Book};
 ghost use Rattle.engine.specs.declared.Event.the-variants.{Cancel as cancel, DayEnd as dayEnd};
-ghost use Rattle.engine.specs.Records.{reportsBytes};
-ghost use Rattle.engine.specs.Venue.{cancelledAtEnd};
-ghost use Rattle.engine.specs.Market.{marketAfter};
-ghost use Rattle.engine.specs.Memory.{MayAccept, Room, effectIn, Accepts};
+ghost use Rattle.engine.specs.rules.Records.{reportsBytes};
+ghost use Rattle.engine.specs.rules.Venue.{cancelledAtEnd};
+ghost use Rattle.engine.specs.rules.Market.{marketAfter};
+ghost use Rattle.engine.specs.steps.Memory.{MayAccept, Room, effectIn, Accepts};
 
 const ASKED_FOR: u32 = 1;
 

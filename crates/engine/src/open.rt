@@ -3,7 +3,7 @@ use crate::OpenAnswer;
 use crate::Opened;
 use crate::Refusal;
 use prices::increments;
-ghost use Rattle.engine.specs.Calls.{Opens};
+ghost use Rattle.engine.specs.claims.Calls.{Opens};
 
 pub fn open(close: u32) -> Opened
     ensures { λ r. ⌜ Opens close (r .answer) (r .words) ⌝ }

@@ -10,11 +10,11 @@ ghost use lib.Dec.{T};
 ghost use Rattle.numbers.specs.SevenBit.{Put};
 ghost use Rattle.prices.specs.Prices.{isBid};
 ghost use Rattle.engine.specs.declared.Event.the-variants.{Bid as bidEvent, Tape as tapeEvent};
-ghost use Rattle.engine.specs.Records.{reportsBytes};
-ghost use Rattle.engine.specs.Venue.{restrictionReport};
-ghost use Rattle.engine.specs.Market.{marketAfter};
-ghost use Rattle.engine.specs.Memory.{MayAccept, Room, effectIn, Accepts};
-ghost use Rattle.engine.specs.Steps.{passIn, PassesAndFinishes};
+ghost use Rattle.engine.specs.rules.Records.{reportsBytes};
+ghost use Rattle.engine.specs.rules.Venue.{restrictionReport};
+ghost use Rattle.engine.specs.rules.Market.{marketAfter};
+ghost use Rattle.engine.specs.steps.Memory.{MayAccept, Room, effectIn, Accepts};
+ghost use Rattle.engine.specs.steps.Steps.{passIn, PassesAndFinishes};
 
 // The pass in the market of the words, and the end of the event.
 fn pass_and_finish(w: &mut [u32], reports: &mut [u8], at: usize) -> usize

@@ -14,12 +14,14 @@ ghost use mathlib.Core.Option.{none};
 ghost use Prim.Native.Nat.{_≤_};
 ghost use lib.ListN.{length};
 ghost use Rattle.numbers.specs.Tests.{conj};
-ghost use Rattle.book.specs.Words.{venueWords, Book};
+ghost use Rattle.book.specs.rules.Words.{venueWords};
+ghost use Rattle.book.specs.steps.BookSteps.{Book};
 ghost use Rattle.engine.specs.declared.Event.the-variants.{Entry as entry, Cancel as cancel};
-ghost use Rattle.engine.specs.Sound.{headerConditions};
-ghost use Rattle.engine.specs.Refusals.{refuseUnless, codesInRange, refusalOfKind};
-ghost use Rattle.engine.specs.Memory.{venueOf, soundWords, refusalIn, Ordered};
-ghost use Rattle.engine.specs.Calls.{refusedWith};
+ghost use Rattle.engine.specs.rules.Sound.{headerConditions};
+ghost use Rattle.engine.specs.rules.Refusals.{refuseUnless, codesInRange, refusalOfKind};
+ghost use Rattle.engine.specs.steps.Memory.{refusalIn, Ordered};
+ghost use Rattle.engine.specs.rules.Layout.{venueOf, soundWords};
+ghost use Rattle.engine.specs.claims.Calls.{refusedWith};
 
 const MOST_EVENTS: u32 = 16_777_215;
 

@@ -3,8 +3,8 @@ use numbers::write;
 ghost use Prim.Native.Nat.{_+_, _≤_};
 ghost use lib.ListN.{length};
 ghost use Rattle.numbers.specs.SevenBit.{Put};
-ghost use Rattle.engine.specs.Reports.{accepted, executed, cancelled, repriced, restrictionStarts, dayEnded};
-ghost use Rattle.engine.specs.Records.{reportBytes};
+ghost use Rattle.engine.specs.rules.Reports.{accepted, executed, cancelled, repriced, restrictionStarts, dayEnded};
+ghost use Rattle.engine.specs.rules.Records.{reportBytes};
 
 pub(crate) fn write_accepted(bytes: &mut [u8], at: usize, id: u32, stamp: u32, price: u32) -> usize
     requires { ⌜ at + length (reportBytes (accepted id stamp price)) ≤ length (now bytes) ⌝ }

@@ -16,12 +16,13 @@ ghost use mathlib.Core.Bool.{_&&_, not};
 ghost use lib.Dec.{T, leb};
 ghost use lib.ListN.{length, getD};
 ghost use Rattle.prices.specs.Prices.{isBid};
-ghost use Rattle.book.specs.Orders.{without};
-ghost use Rattle.book.specs.Words.{emptyOrder, resting, Book};
-ghost use Rattle.engine.specs.Working;
-ghost use Rattle.engine.specs.Pass.{displayedClear, moveDown, slideOnce, slideDown, moveOf, atNewPrice, afterMove, passOver};
-ghost use Rattle.engine.specs.Memory.{Ordered, Room, Does, DoesEffect};
-ghost use Rattle.engine.specs.Steps.{moveInPass, repricedReports, turnOf, idsOf, StartsWithIds};
+ghost use Rattle.book.specs.rules.Orders.{without};
+ghost use Rattle.book.specs.rules.Words.{emptyOrder, resting};
+ghost use Rattle.book.specs.steps.BookSteps.{Book};
+ghost use Rattle.engine.specs.rules.Working;
+ghost use Rattle.engine.specs.rules.Pass.{displayedClear, moveDown, slideOnce, slideDown, moveOf, atNewPrice, afterMove, passOver};
+ghost use Rattle.engine.specs.steps.Memory.{Ordered, Room, Does, DoesEffect};
+ghost use Rattle.engine.specs.steps.Steps.{moveInPass, repricedReports, turnOf, idsOf, StartsWithIds};
 
 // Whether an order is displayed and clear.
 fn displayed_clear(o: Order) -> bool

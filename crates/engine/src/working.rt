@@ -20,16 +20,17 @@ ghost use lib.Dec.{T};
 ghost use lib.ListN.{length, getD};
 ghost use Rattle.numbers.specs.SevenBit.{Put};
 ghost use Rattle.prices.specs.Prices.{isBid};
-ghost use Rattle.book.specs.Matching;
-ghost use Rattle.book.specs.Words.{emptyOrder, resting, Book};
-ghost use Rattle.book.specs.Positions.{Found};
-ghost use Rattle.engine.specs.Market.{permittedNow};
-ghost use Rattle.engine.specs.Reports.{executed};
-ghost use Rattle.engine.specs.Records.{reportBytes};
-ghost use Rattle.engine.specs.Working;
-ghost use Rattle.engine.specs.Working.{workingPrice, orderOf, remainder};
-ghost use Rattle.engine.specs.Memory.{Ordered, Room, Does};
-ghost use Rattle.engine.specs.Steps.{MayEnter, Meets, executionReports, Matches, restedOrCancelled};
+ghost use Rattle.book.specs.rules.Matching;
+ghost use Rattle.book.specs.rules.Words.{emptyOrder, resting};
+ghost use Rattle.book.specs.steps.BookSteps.{Book};
+ghost use Rattle.book.specs.steps.Positions.{Found};
+ghost use Rattle.engine.specs.rules.Market.{permittedNow};
+ghost use Rattle.engine.specs.rules.Reports.{executed};
+ghost use Rattle.engine.specs.rules.Records.{reportBytes};
+ghost use Rattle.engine.specs.rules.Working;
+ghost use Rattle.engine.specs.rules.Working.{workingPrice, orderOf, remainder};
+ghost use Rattle.engine.specs.steps.Memory.{Ordered, Room, Does};
+ghost use Rattle.engine.specs.steps.Steps.{MayEnter, Meets, executionReports, Matches, restedOrCancelled};
 
 const IMMEDIATE_OR_CANCEL: u32 = 2;
 
@@ -55,7 +56,7 @@ pub(crate) fn larger(a: u32, b: u32) -> u32
 
 // Whether an order of a mark is restricted.
 pub(crate) fn restricted(m: Market, mark: u32) -> bool
-    ensures { λ r. ⌜ r ≡ Rattle.engine.specs.Market.restricted m mark ⌝ }
+    ensures { λ r. ⌜ r ≡ Rattle.engine.specs.rules.Market.restricted m mark ⌝ }
 {
     if restriction::restriction_on(m.phase) {
         return mark == 2;

@@ -1,3 +1,2 @@
 -- Laws of the calls for hosts.
-pub mod HostLaws
-pub mod CopyCount
+pub mod refinement

@@ -1,2 +1,1 @@
-pub mod Host
-pub mod Observe
+pub mod rules

@@ -17,10 +17,10 @@ ghost use Prim.Native.Nat.{_≤_};
 ghost use lib.ListN.{length, drop};
 ghost use Rattle.numbers.specs.Tests.{All};
 ghost use Rattle.prices.specs.Prices.{permittedOf};
-ghost use Rattle.engine.specs.Records.{recordNumbers, recordAt};
-ghost use Rattle.engine.specs.RoundTrips.{Word};
-ghost use Rattle.engine.specs.Calls.{outcomeOfAnswer};
-ghost use Rattle.host.specs.Host.{hostAnswer, HostOpened, CountFits, EventApplied, HostApplied, endOrZero, valueOrZero};
+ghost use Rattle.engine.specs.rules.Records.{recordNumbers, recordAt};
+ghost use Rattle.engine.specs.claims.RoundTrips.{Word};
+ghost use Rattle.engine.specs.claims.Calls.{outcomeOfAnswer};
+ghost use Rattle.host.specs.rules.Host.{hostAnswer, HostOpened, CountFits, EventApplied, HostApplied, endOrZero, valueOrZero};
 
 // An answer is refusal × REFUSAL_UNIT + byte count.
 pub(crate) const REFUSAL_UNIT: u32 = 65_536;

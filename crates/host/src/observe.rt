@@ -12,10 +12,10 @@ use prices::restriction;
 ghost use mathlib.Core.Path.{_≡_};
 ghost use lib.ListN.{length};
 ghost use Rattle.prices.specs.Watch.{watched, watchOutcome, outcomeOfWatch};
-ghost use Rattle.book.specs.Depth.{depthOf, outcomeOfDepth};
-ghost use Rattle.engine.specs.Copy.{copyOutcome, copied, outcomeOfCopy};
-ghost use Rattle.host.specs.Host.{hostAnswer, CountFits};
-ghost use Rattle.host.specs.Observe.{sideOf, depthNumber, watchCount};
+ghost use Rattle.book.specs.rules.Depth.{depthOf, outcomeOfDepth};
+ghost use Rattle.engine.specs.rules.Copy.{copyOutcome, copied, outcomeOfCopy};
+ghost use Rattle.host.specs.rules.Host.{hostAnswer, CountFits};
+ghost use Rattle.host.specs.rules.Observe.{sideOf, depthNumber, watchCount};
 
 fn copy_number(answer: CopyAnswer) -> u32
     requires { ⌜ CountFits (outcomeOfCopy answer) ⌝ }

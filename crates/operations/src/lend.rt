@@ -12,8 +12,8 @@ use prices::restriction;
 ghost use mathlib.Core.Path.{_≡_};
 ghost use lib.ListN.{replicate};
 ghost use Rattle.prices.specs.Watch.{watched, watchOutcome, outcomeOfWatch};
-ghost use Rattle.book.specs.Depth.{depthOf, outcomeOfDepth};
-ghost use Rattle.engine.specs.Copy.{copyOutcome, copied, outcomeOfCopy};
+ghost use Rattle.book.specs.rules.Depth.{depthOf, outcomeOfDepth};
+ghost use Rattle.engine.specs.rules.Copy.{copyOutcome, copied, outcomeOfCopy};
 
 pub fn watch_of(watch: Watch, price: u32) -> WatchSeen
     ensures { λ r. ⌜ (r .watch ≡ watched watch price) × (outcomeOfWatch (r .answer) ≡ watchOutcome price) ⌝ }

@@ -13,8 +13,8 @@ use Rattle.numbers.specs.Tests.{pick}
 use Rattle.numbers.specs.Answers.{Outcome, gives, refuses, Read}
 use Rattle.numbers.specs.SevenBit.{numberAt}
 use Rattle.numbers.proofs.ReadLaws.{number}
-use Rattle.engine.specs.Records.{highestField, onField, byField, fieldsAt}
-use Rattle.engine.proofs.RecordLaws.{fields, given, not-given}
+use Rattle.engine.specs.rules.Records.{highestField, onField, byField, fieldsAt}
+use Rattle.engine.proofs.bytes.RecordLaws.{fields, given, not-given}
 
 -- a field by its number
 

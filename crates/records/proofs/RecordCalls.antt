@@ -17,7 +17,7 @@ use Rattle.records.specs.declared.RecordWrite.{RecordWrite}
 use Rattle.records.specs.declared.RecordWrite.the-variants.{End, NoRoom}
 use Rattle.records.specs.RecordAnswers.{outcomeOfRecordRead, outcomeOfRecordWrite}
 use Rattle.records.specs.RecordTrips.{WrittenReadsBack, ReadIsWritten}
-use Rattle.engine.proofs.RecordLaws.{given, not-given, record-read-back, record-unique}
+use Rattle.engine.proofs.bytes.RecordLaws.{given, not-given, record-read-back, record-unique}
 
 -- an answer by its outcome
 

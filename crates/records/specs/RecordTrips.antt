@@ -5,8 +5,8 @@ use mathlib.Core.List.{List}
 use Rattle.numbers.specs.Tests.{All}
 use Rattle.numbers.specs.SevenBit.{IsByte, Written}
 use Rattle.engine.specs.declared.Event.{Event}
-use Rattle.engine.specs.Records.{recordNumbers, recordBytes, recordAt}
-use Rattle.engine.specs.RoundTrips.{Word}
+use Rattle.engine.specs.rules.Records.{recordNumbers, recordBytes, recordAt}
+use Rattle.engine.specs.claims.RoundTrips.{Word}
 use Rattle.records.specs.declared.RecordRead.{RecordRead}
 use Rattle.records.specs.declared.RecordRead.the-variants.{Record}
 use Rattle.records.specs.declared.RecordWrite.{RecordWrite}

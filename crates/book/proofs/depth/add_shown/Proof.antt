@@ -1,7 +1,7 @@
 -- The sum stays below 2^63, so adding 32 bits doesn't wrap. Assumes nothing.
 use native.Mathlib.Omega.{arith}
 use borrow.Author.Needs.{needs}
-use Rattle.book.proofs.DepthLaws.{shown-counted, shown-uncounted}
+use Rattle.book.proofs.refinement.DepthLaws.{shown-counted, shown-uncounted}
 use Rattle.book.proofs.depth.add_shown.Statement.{statement}
 use Rattle.book.proofs.depth.add_shown.Tie as tie
 

@@ -2,7 +2,7 @@
 use mathlib.Core.Path.{_∙_}
 use borrow.Author.Needs.{needs}
 use borrow.Author.Tests.{eq-eqb, ne-eqb}
-use Rattle.book.specs.Depth.{counts}
+use Rattle.book.specs.rules.Depth.{counts}
 use Rattle.book.proofs.depth.counts.Statement.{statement}
 use Rattle.book.proofs.depth.counts.Tie as tie
 

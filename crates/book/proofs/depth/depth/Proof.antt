@@ -51,12 +51,12 @@ use denote.Triple.Table.{entered, cited}
 use denote.Triple.Walked.{says, Stays, stay-none-slice, stay-none, walkOf, AllGo, goes-none, goes-none-slice, Walks, ends-at, walked, walk-meets}
 use denote.Triple.Clauses.{ensured, lasts}
 use denote.Exit.{yes}
-use Rattle.book.specs.Words.{emptyOrder}
-use Rattle.book.specs.Depth.{sharesShown, depthOutcome, depthOf, outcomeOfDepth, recordsRead}
+use Rattle.book.specs.rules.Words.{emptyOrder}
+use Rattle.book.specs.rules.Depth.{sharesShown, depthOutcome, depthOf, outcomeOfDepth, recordsRead}
 use Rattle.book.specs.declared.Order.{Order}
 use Rattle.book.specs.declared.Side.{Side}
 use Rattle.book.specs.declared.DepthAnswer.{DepthAnswer}
-use Rattle.book.proofs.DepthLaws.{shownTo, shown-none, shown-next, read-few, depth-is}
+use Rattle.book.proofs.refinement.DepthLaws.{shownTo, shown-none, shown-next, read-few, depth-is}
 use Rattle.book.proofs.Order as T
 use Rattle.book.proofs.Order.Laws as T′
 use Rattle.book.proofs.Side as S

@@ -1,7 +1,7 @@
 -- Each return has the test that leads there. Assumes nothing.
 use borrow.Author.Tests.{lt-ltb, le-ltb}
 use Rattle.numbers.specs.Tests.{pick}
-use Rattle.book.specs.Depth.{depthOutcome}
+use Rattle.book.specs.rules.Depth.{depthOutcome}
 use Rattle.book.proofs.depth.depth_answer.Statement.{statement}
 use Rattle.book.proofs.depth.depth_answer.Tie as tie
 

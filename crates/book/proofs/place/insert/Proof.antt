@@ -2,10 +2,10 @@
 use Prim.Native.Nat.{ℕ}
 use mathlib.Core.Path.{sym, ap, _∙_}
 use native.Mathlib.Omega.{arith}
-use Rattle.book.specs.Words.{resting}
-use Rattle.book.specs.Positions.{insertAt}
-use Rattle.book.proofs.RankLaws.{rank-length, insert-rank}
-use Rattle.book.proofs.HoldsLaws.{holds-as}
+use Rattle.book.specs.rules.Words.{resting}
+use Rattle.book.specs.steps.Positions.{insertAt}
+use Rattle.book.proofs.refinement.RankLaws.{rank-length, insert-rank}
+use Rattle.book.proofs.refinement.HoldsLaws.{holds-as}
 use borrow.Author.Needs.{needs}
 use Rattle.book.proofs.place.insert.Statement.{statement}
 use Rattle.book.proofs.place.insert.Tie as tie

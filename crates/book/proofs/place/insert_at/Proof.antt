@@ -4,9 +4,9 @@ use Prim.Native.Nat.{_-_, _≤_}
 use native.Mathlib.Omega.{arith}
 use lib.ListN.{length, length-set}
 use borrow.Rule.Slice.PartMut.{putMid}
-use Rattle.book.specs.WordSteps.{ShiftedUp}
-use Rattle.book.proofs.WordStepLaws.{part-up}
-use Rattle.book.proofs.HoldsLaws.{inserted}
+use Rattle.book.specs.steps.WordSteps.{ShiftedUp}
+use Rattle.book.proofs.refinement.WordStepLaws.{part-up}
+use Rattle.book.proofs.refinement.HoldsLaws.{inserted}
 use borrow.Author.Needs.{needs}
 use Rattle.book.proofs.place.insert_at.Statement.{statement}
 use Rattle.book.proofs.place.insert_at.Tie as tie

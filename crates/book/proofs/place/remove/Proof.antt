@@ -1,8 +1,8 @@
 -- The order at a position is the one with its id. Assumes nothing.
-use Rattle.book.specs.Words.{resting}
-use Rattle.book.proofs.RisingLaws.{idsRise-rises}
-use Rattle.book.proofs.HoldsLaws.{holds-as}
-use Rattle.book.proofs.StepLaws.{removeAt-without}
+use Rattle.book.specs.rules.Words.{resting}
+use Rattle.book.proofs.definitions.RisingLaws.{idsRise-rises}
+use Rattle.book.proofs.refinement.HoldsLaws.{holds-as}
+use Rattle.book.proofs.refinement.StepLaws.{removeAt-without}
 use borrow.Author.Needs.{needs}
 use Rattle.book.proofs.place.remove.Statement.{statement}
 use Rattle.book.proofs.place.remove.Tie as tie

@@ -2,8 +2,8 @@
 use Prim.Native.Nat.{_≤_}
 use native.Mathlib.Omega.{arith}
 use lib.ListN.{length}
-use Rattle.book.proofs.WordStepLaws.{part-down}
-use Rattle.book.proofs.HoldsLaws.{removed}
+use Rattle.book.proofs.refinement.WordStepLaws.{part-down}
+use Rattle.book.proofs.refinement.HoldsLaws.{removed}
 use borrow.Author.Needs.{needs}
 use Rattle.book.proofs.place.remove_at.Statement.{statement}
 use Rattle.book.proofs.place.remove_at.Tie as tie

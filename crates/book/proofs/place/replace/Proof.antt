@@ -1,5 +1,5 @@
 -- `replace` changes the order at its position alone. Assumes nothing.
-use Rattle.book.proofs.HoldsLaws.{replaced}
+use Rattle.book.proofs.refinement.HoldsLaws.{replaced}
 use borrow.Author.Needs.{needs}
 use Rattle.book.proofs.place.replace.Statement.{statement}
 use Rattle.book.proofs.place.replace.Tie as tie

@@ -3,8 +3,8 @@ use borrow.Author.Needs.{needs}
 use Prim.Native.Nat.{_-_, _≤_, zero-le}
 use mathlib.Core.Path.{_≡_}
 use native.Mathlib.Omega.{arith}
-use Rattle.book.specs.WordSteps.{ShiftedDown}
-use Rattle.book.proofs.WordStepLaws.{shifted-down-none, shifted-down-more}
+use Rattle.book.specs.steps.WordSteps.{ShiftedDown}
+use Rattle.book.proofs.refinement.WordStepLaws.{shifted-down-none, shifted-down-more}
 use Rattle.book.proofs.place.shift_down.Statement.{statement}
 use Rattle.book.proofs.place.shift_down.Tie as tie
 

@@ -3,8 +3,8 @@ use borrow.Author.Needs.{needs}
 use Prim.Native.Nat.{ℕ, _-_, _≤_}
 use mathlib.Core.Path.{_≡_, subst}
 use native.Mathlib.Omega.{arith}
-use Rattle.book.specs.WordSteps.{ShiftedUp}
-use Rattle.book.proofs.WordStepLaws.{shifted-up-none, shifted-up-more}
+use Rattle.book.specs.steps.WordSteps.{ShiftedUp}
+use Rattle.book.proofs.refinement.WordStepLaws.{shifted-up-none, shifted-up-more}
 use Rattle.book.proofs.place.shift_up.Statement.{statement}
 use Rattle.book.proofs.place.shift_up.Tie as tie
 

@@ -6,10 +6,10 @@ use mathlib.Core.Path.{_≡_, sym, _∙_}
 use mathlib.Core.Option.{none}
 use lib.ListN.{length, drop}
 use Rattle.book.specs.declared.Position.the-variants.{At, Absent}
-use Rattle.book.specs.Matching.{bestFrom, best}
-use Rattle.book.specs.Words.{resting}
-use Rattle.book.specs.Positions.{orderIn}
-use Rattle.book.proofs.StepLaws.{best-more, best-end, consider-first}
+use Rattle.book.specs.rules.Matching.{bestFrom, best}
+use Rattle.book.specs.rules.Words.{resting}
+use Rattle.book.specs.steps.Positions.{orderIn}
+use Rattle.book.proofs.refinement.StepLaws.{best-more, best-end, consider-first}
 use Rattle.book.proofs.priority.best.Statement.{statement}
 use Rattle.book.proofs.priority.best.Tie as tie
 

@@ -1,7 +1,7 @@
 -- `better` by price, then displayed, then stamp. Assumes nothing.
 use mathlib.Core.Path.{sym, _∙_}
 use borrow.Author.Tests.{lt-ltb, le-ltb, eq-eqb, ne-eqb}
-use Rattle.book.specs.Matching.{better}
+use Rattle.book.specs.rules.Matching.{better}
 use borrow.Author.Needs.{needs}
 use Rattle.book.proofs.priority.better.Statement.{statement}
 use Rattle.book.proofs.priority.better.Tie as tie

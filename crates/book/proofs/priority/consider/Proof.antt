@@ -4,9 +4,9 @@ use native.Mathlib.Omega.{arith}
 use mathlib.Core.Bool.{true, false}
 use lib.ListN.{getD}
 use Rattle.book.specs.declared.Position.the-variants.{At}
-use Rattle.book.specs.Matching.{reaches, better}
-use Rattle.book.specs.Words.{emptyOrder, resting}
-use Rattle.book.proofs.StepLaws.{consider-better, consider-worse, consider-unreached}
+use Rattle.book.specs.rules.Matching.{reaches, better}
+use Rattle.book.specs.rules.Words.{emptyOrder, resting}
+use Rattle.book.proofs.refinement.StepLaws.{consider-better, consider-worse, consider-unreached}
 use borrow.Author.Needs.{needs}
 use Rattle.book.proofs.priority.consider.Statement.{statement}
 use Rattle.book.proofs.priority.consider.Tie as tie

@@ -7,9 +7,9 @@ use mathlib.Core.Bool.{true, false}
 use mathlib.Core.Option.{none}
 use lib.ListN.{length, getD, drop}
 use Rattle.book.specs.declared.Position.the-variants.{Absent}
-use Rattle.book.specs.Matching.{reaches, bestFrom, best}
-use Rattle.book.specs.Words.{emptyOrder, resting}
-use Rattle.book.proofs.StepLaws.{best-start, best-more, consider-unreached}
+use Rattle.book.specs.rules.Matching.{reaches, bestFrom, best}
+use Rattle.book.specs.rules.Words.{emptyOrder, resting}
+use Rattle.book.proofs.refinement.StepLaws.{best-start, best-more, consider-unreached}
 use Rattle.book.proofs.priority.first_reached.Statement.{statement}
 use Rattle.book.proofs.priority.first_reached.Tie as tie
 

@@ -1,7 +1,7 @@
 -- `reaches` by the two sides. Assumes nothing.
 use borrow.Author.Tests.{eq-eqb, ne-eqb}
 use Rattle.numbers.specs.Tests.{pick}
-use Rattle.book.specs.Matching.{reaches}
+use Rattle.book.specs.rules.Matching.{reaches}
 use Rattle.book.proofs.priority.reaches.Statement.{statement}
 use Rattle.book.proofs.priority.reaches.Tie as tie
 

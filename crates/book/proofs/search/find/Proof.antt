@@ -4,11 +4,11 @@ use mathlib.Core.Path.{_≡_, sym, ap, _∙_, subst}
 use native.Mathlib.Omega.{arith}
 use mathlib.Core.Option.{some}
 use lib.ListN.{length, getD}
-use Rattle.book.specs.Orders.{find}
-use Rattle.book.specs.Words.{resting, emptyOrder}
-use Rattle.book.proofs.RisingLaws.{idsRise-rises}
-use Rattle.book.proofs.PositionLaws.{find-at}
-use Rattle.book.proofs.RankLaws.{idIn, rank-length, find-absent}
+use Rattle.book.specs.rules.Orders.{find}
+use Rattle.book.specs.rules.Words.{resting, emptyOrder}
+use Rattle.book.proofs.definitions.RisingLaws.{idsRise-rises}
+use Rattle.book.proofs.refinement.PositionLaws.{find-at}
+use Rattle.book.proofs.refinement.RankLaws.{idIn, rank-length, find-absent}
 use borrow.Author.Needs.{needs}
 use Rattle.book.proofs.search.find.Statement.{statement}
 use Rattle.book.proofs.search.find.Tie as tie

@@ -4,10 +4,10 @@ use mathlib.Core.Path.{_≡_, sym, _∙_, subst}
 use native.Mathlib.Omega.{arith}
 use mathlib.Core.Option.{some}
 use lib.ListN.{length, getD}
-use Rattle.book.specs.Orders.{find}
-use Rattle.book.specs.Words.{resting, emptyOrder}
-use Rattle.book.proofs.RisingLaws.{idsRise-rises}
-use Rattle.book.proofs.PositionLaws.{find-at}
+use Rattle.book.specs.rules.Orders.{find}
+use Rattle.book.specs.rules.Words.{resting, emptyOrder}
+use Rattle.book.proofs.definitions.RisingLaws.{idsRise-rises}
+use Rattle.book.proofs.refinement.PositionLaws.{find-at}
 use borrow.Author.Needs.{needs}
 use Rattle.book.proofs.search.find_near.Statement.{statement}
 use Rattle.book.proofs.search.find_near.Tie as tie

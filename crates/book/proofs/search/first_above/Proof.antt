@@ -4,8 +4,8 @@ use mathlib.Core.Path.{sym, ap, _∙_}
 use native.Mathlib.Omega.{arith}
 use mathlib.Core.Option.{some}
 use lib.ListN.{getD}
-use Rattle.book.specs.Words.{resting, emptyOrder}
-use Rattle.book.proofs.RankLaws.{firstAbove-at, firstAbove-none}
+use Rattle.book.specs.rules.Words.{resting, emptyOrder}
+use Rattle.book.proofs.refinement.RankLaws.{firstAbove-at, firstAbove-none}
 use borrow.Author.Needs.{needs}
 use Rattle.book.proofs.search.first_above.Statement.{statement}
 use Rattle.book.proofs.search.first_above.Tie as tie

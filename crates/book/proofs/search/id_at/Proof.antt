@@ -1,7 +1,7 @@
 -- `id_at` gives the id of the order at a position. Assumes nothing.
 use mathlib.Core.Path.{sym, ap, _∙_}
 use Rattle.book.specs.declared.Order.{Order}
-use Rattle.book.proofs.WordLaws.{resting-at}
+use Rattle.book.proofs.refinement.WordLaws.{resting-at}
 use borrow.Author.Needs.{needs}
 use Rattle.book.proofs.search.id_at.Statement.{statement}
 use Rattle.book.proofs.search.id_at.Tie as tie

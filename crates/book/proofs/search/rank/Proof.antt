@@ -3,9 +3,9 @@ use borrow.Author.Needs.{needs}
 use Prim.Native.Nat.{ℕ, _+_, _-_, _/_, _≤_, _<_}
 use native.Mathlib.Omega.{arith}
 use mathlib.Core.Path.{_≡_, subst}
-use Rattle.book.specs.Words.{resting}
-use Rattle.book.proofs.RisingLaws.{idsRise-rises}
-use Rattle.book.proofs.RankLaws.{RankBetween, between-start, between-low, between-high, between-end}
+use Rattle.book.specs.rules.Words.{resting}
+use Rattle.book.proofs.definitions.RisingLaws.{idsRise-rises}
+use Rattle.book.proofs.refinement.RankLaws.{RankBetween, between-start, between-low, between-high, between-end}
 use Rattle.book.proofs.search.rank.Statement.{statement}
 use Rattle.book.proofs.search.rank.Tie as tie
 

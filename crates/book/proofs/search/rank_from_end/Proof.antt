@@ -3,9 +3,9 @@ use Prim.Native.Nat.{ℕ, _-_, _≤_}
 use mathlib.Core.Path.{_≡_, sym, subst}
 use native.Mathlib.Omega.{arith}
 use lib.ListN.{length}
-use Rattle.book.specs.Words.{resting}
-use Rattle.book.proofs.RisingLaws.{idsRise-rises}
-use Rattle.book.proofs.RankLaws.{rank-is, rank-length, none-above}
+use Rattle.book.specs.rules.Words.{resting}
+use Rattle.book.proofs.definitions.RisingLaws.{idsRise-rises}
+use Rattle.book.proofs.refinement.RankLaws.{rank-is, rank-length, none-above}
 use borrow.Author.Needs.{needs}
 use Rattle.book.proofs.search.rank_from_end.Statement.{statement}
 use Rattle.book.proofs.search.rank_from_end.Tie as tie

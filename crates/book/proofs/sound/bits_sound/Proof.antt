@@ -3,9 +3,9 @@ use Prim.Native.Nat.{ℕ}
 use mathlib.Core.Path.{_≡_, _∙_}
 use mathlib.Core.Bool.{_&&_}
 use lib.Dec.{leb}
-use Rattle.book.specs.Words.{flagsAt}
-use Rattle.book.specs.RecordWalk.{bitsAt}
-use Rattle.book.proofs.SoundOrderLaws.{four-bits}
+use Rattle.book.specs.rules.Words.{flagsAt}
+use Rattle.book.specs.steps.RecordWalk.{bitsAt}
+use Rattle.book.proofs.refinement.SoundOrderLaws.{four-bits}
 use borrow.Author.Needs.{needs}
 use Rattle.book.proofs.sound.bits_sound.Statement.{statement}
 use Rattle.book.proofs.sound.bits_sound.Tie as tie

@@ -3,8 +3,8 @@ use native.Mathlib.Omega.{arith}
 use mathlib.Core.Path.{_≡_, sym, _∙_}
 use borrow.Author.Tests.{le-leb, lt-leb, eq-eqb, ne-eqb}
 use Rattle.numbers.proofs.TestLaws.{and-yes, and-no}
-use Rattle.book.specs.RecordWalk.{codesSound}
-use Rattle.book.proofs.SoundOrderLaws.{slide-of-short, slide-of-other}
+use Rattle.book.specs.steps.RecordWalk.{codesSound}
+use Rattle.book.proofs.refinement.SoundOrderLaws.{slide-of-short, slide-of-other}
 use Rattle.book.proofs.sound.codes_sound.Statement.{statement}
 use Rattle.book.proofs.sound.codes_sound.Tie as tie
 

@@ -1,6 +1,6 @@
 -- `from_one` by its two tests. Assumes nothing.
 use borrow.Author.Tests.{le-leb, lt-leb}
-use Rattle.book.specs.RecordWalk.{fromOne}
+use Rattle.book.specs.steps.RecordWalk.{fromOne}
 use Rattle.book.proofs.sound.from_one.Statement.{statement}
 use Rattle.book.proofs.sound.from_one.Tie as tie
 

@@ -5,9 +5,9 @@ use mathlib.Core.Path.{_≡_, refl, sym, ap, _∙_}
 use native.Mathlib.Omega.{arith}
 use lib.ListN.{getD}
 use Rattle.numbers.proofs.TestLaws.{not-yes, not-no}
-use Rattle.book.specs.RecordWalk.{lastIn, idBefore}
-use Rattle.book.proofs.StampLaws.{idBefore-next}
-use Rattle.book.proofs.WalkLaws.{Walked, walked-start, walked-more, walked-all, too-short, too-many, unsound-place, seen-stamp}
+use Rattle.book.specs.steps.RecordWalk.{lastIn, idBefore}
+use Rattle.book.proofs.refinement.StampLaws.{idBefore-next}
+use Rattle.book.proofs.refinement.WalkLaws.{Walked, walked-start, walked-more, walked-all, too-short, too-many, unsound-place, seen-stamp}
 use Rattle.book.proofs.sound.is_sound.Statement.{statement}
 use Rattle.book.proofs.sound.is_sound.Tie as tie
 

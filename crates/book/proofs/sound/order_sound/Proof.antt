@@ -2,11 +2,11 @@
 use Prim.Native.Nat.{ℕ, _≤_, _<_}
 use mathlib.Core.Path.{_≡_, sym, ap, _∙_, subst}
 use borrow.Author.Tests.{le-leb, lt-leb}
-use Rattle.book.specs.Sound.{mostShares}
-use Rattle.book.specs.Words.{word, orderAt}
-use Rattle.book.specs.RecordWalk.{fromOne, codesSound, pricesSound}
+use Rattle.book.specs.rules.Sound.{mostShares}
+use Rattle.book.specs.rules.Words.{word, orderAt}
+use Rattle.book.specs.steps.RecordWalk.{fromOne, codesSound, pricesSound}
 use Rattle.numbers.proofs.TestLaws.{and-yes, and-no}
-use Rattle.book.proofs.SoundOrderLaws.{sound-groups}
+use Rattle.book.proofs.refinement.SoundOrderLaws.{sound-groups}
 use borrow.Author.Needs.{needs}
 use Rattle.book.proofs.sound.order_sound.Statement.{statement}
 use Rattle.book.proofs.sound.order_sound.Tie as tie

@@ -3,10 +3,10 @@ use mathlib.Core.Path.{_≡_, sym, ap₂, _∙_}
 use mathlib.Core.Bool.{true, false, _&&_}
 use borrow.Author.Tests.{lt-ltb, le-ltb}
 use lib.Dec.{T, leb, ltb, leb→le}
-use Rattle.book.specs.Words.{word, flagsAt}
-use Rattle.book.specs.RecordWalk.{bitsAt, idBefore, soundAt}
+use Rattle.book.specs.rules.Words.{word, flagsAt}
+use Rattle.book.specs.steps.RecordWalk.{bitsAt, idBefore, soundAt}
 use Rattle.numbers.proofs.TestLaws.{answered-T, T-true, and-T, and-yes, and-no}
-use Rattle.book.proofs.SoundOrderLaws.{unsound-bits}
+use Rattle.book.proofs.refinement.SoundOrderLaws.{unsound-bits}
 use borrow.Author.Needs.{needs}
 use Rattle.book.proofs.sound.place_sound.Statement.{statement}
 use Rattle.book.proofs.sound.place_sound.Tie as tie

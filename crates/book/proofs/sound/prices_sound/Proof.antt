@@ -3,7 +3,7 @@ use Prim.Native.Nat.{ℕ}
 use mathlib.Core.Path.{_≡_, sym, subst, _∙_}
 use mathlib.Core.Bool.{true}
 use Rattle.prices.specs.Prices.{legal}
-use Rattle.book.specs.RecordWalk.{pricesSound}
+use Rattle.book.specs.steps.RecordWalk.{pricesSound}
 use Rattle.numbers.proofs.TestLaws.{and-yes, and-no}
 use borrow.Author.Needs.{needs}
 use Rattle.book.proofs.sound.prices_sound.Statement.{statement}

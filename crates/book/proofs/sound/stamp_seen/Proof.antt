@@ -1,7 +1,7 @@
 -- The loop of `stamp_seen`: the stamp was seen where it was among the places up to this one. Assumes nothing.
 use borrow.Author.Needs.{needs}
 use mathlib.Core.Path.{sym, _∙_}
-use Rattle.book.proofs.StampLaws.{ChainAt, chain-start, chain-hit, chain-next, chain-shorter, chain-end}
+use Rattle.book.proofs.refinement.StampLaws.{ChainAt, chain-start, chain-hit, chain-next, chain-shorter, chain-end}
 use Rattle.book.proofs.sound.stamp_seen.Statement.{statement}
 use Rattle.book.proofs.sound.stamp_seen.Tie as tie
 

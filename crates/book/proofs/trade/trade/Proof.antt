@@ -3,11 +3,11 @@ use Prim.Native.Nat.{_≤_, _<_}
 use mathlib.Core.Path.{ap, _∙_, subst}
 use lib.ListN.{set}
 use Rattle.book.specs.declared.Order.{Order}
-use Rattle.book.specs.Orders.{reduced}
-use Rattle.book.specs.Words.{resting}
-use Rattle.book.proofs.RisingLaws.{idsRise-rises}
-use Rattle.book.proofs.HoldsLaws.{holds-as}
-use Rattle.book.proofs.StepLaws.{trade-all, trade-part}
+use Rattle.book.specs.rules.Orders.{reduced}
+use Rattle.book.specs.rules.Words.{resting}
+use Rattle.book.proofs.definitions.RisingLaws.{idsRise-rises}
+use Rattle.book.proofs.refinement.HoldsLaws.{holds-as}
+use Rattle.book.proofs.refinement.StepLaws.{trade-all, trade-part}
 use borrow.Author.Needs.{needs}
 use Rattle.book.proofs.trade.trade.Statement.{statement}
 use Rattle.book.proofs.trade.trade.Tie as tie

@@ -1,5 +1,5 @@
 -- `clear` leaves no orders. Assumes nothing.
-use Rattle.book.proofs.HoldsLaws.{cleared}
+use Rattle.book.proofs.refinement.HoldsLaws.{cleared}
 use borrow.Author.Needs.{needs}
 use Rattle.book.proofs.words.clear.Statement.{statement}
 use Rattle.book.proofs.words.clear.Tie as tie

@@ -3,8 +3,8 @@ use borrow.Author.Needs.{needs}
 use Prim.Native.Nat.{_-_, _≤_}
 use native.Mathlib.Omega.{arith}
 use mathlib.Core.Path.{_≡_}
-use Rattle.book.specs.WordSteps.{Copied}
-use Rattle.book.proofs.WordStepLaws.{copied-none, copied-more}
+use Rattle.book.specs.steps.WordSteps.{Copied}
+use Rattle.book.proofs.refinement.WordStepLaws.{copied-none, copied-more}
 use Rattle.book.proofs.words.copy_row.Statement.{statement}
 use Rattle.book.proofs.words.copy_row.Tie as tie
 

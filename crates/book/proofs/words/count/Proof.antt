@@ -1,6 +1,6 @@
 -- `count` gives the number of orders. Assumes nothing.
 use mathlib.Core.Path.{sym, _∙_}
-use Rattle.book.proofs.WordLaws.{resting-length}
+use Rattle.book.proofs.refinement.WordLaws.{resting-length}
 use borrow.Author.Needs.{needs}
 use Rattle.book.proofs.words.count.Statement.{statement}
 use Rattle.book.proofs.words.count.Tie as tie

@@ -1,5 +1,5 @@
 -- `load` gives the order whose words it reads. Assumes nothing.
-use Rattle.book.proofs.WordLaws.{loaded}
+use Rattle.book.proofs.refinement.WordLaws.{loaded}
 use borrow.Author.Needs.{needs}
 use Rattle.book.proofs.words.load.Statement.{statement}
 use Rattle.book.proofs.words.load.Tie as tie

@@ -1,5 +1,5 @@
 -- `row_of` gives the words of an order. Assumes nothing.
-use Rattle.book.proofs.WordLaws.{row-is}
+use Rattle.book.proofs.refinement.WordLaws.{row-is}
 use borrow.Author.Needs.{needs}
 use Rattle.book.proofs.words.row_of.Statement.{statement}
 use Rattle.book.proofs.words.row_of.Tie as tie

@@ -1,5 +1,5 @@
 -- `set_header_word` changes one header word alone. Assumes nothing.
-use Rattle.book.proofs.HoldsLaws.{header-set}
+use Rattle.book.proofs.refinement.HoldsLaws.{header-set}
 use borrow.Author.Needs.{needs}
 use Rattle.book.proofs.words.set_header_word.Statement.{statement}
 use Rattle.book.proofs.words.set_header_word.Tie as tie

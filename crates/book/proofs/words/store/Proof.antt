@@ -1,5 +1,5 @@
 -- `store` changes the words of its place alone. Assumes nothing.
-use Rattle.book.proofs.WordStepLaws.{copied-stored}
+use Rattle.book.proofs.refinement.WordStepLaws.{copied-stored}
 use borrow.Author.Needs.{needs}
 use Rattle.book.proofs.words.store.Statement.{statement}
 use Rattle.book.proofs.words.store.Tie as tie

@@ -1,6 +1,6 @@
 -- Each kind of event does what it does. Assumes nothing.
 use mathlib.Core.Path.{sym}
-use Rattle.engine.proofs.CancelLaws.{accepts-as, unrefused-as}
+use Rattle.engine.proofs.refinement.CancelLaws.{accepts-as, unrefused-as}
 use borrow.Author.Needs.{needs}
 use Rattle.engine.proofs.apply.accept.Statement.{statement}
 use Rattle.engine.proofs.apply.accept.Tie as tie

@@ -3,8 +3,8 @@ use native.Mathlib.Omega.{arith}
 use mathlib.Core.Path.{refl}
 use borrow.Author.Needs.{needs}
 use Rattle.engine.specs.declared.Event.the-variants.{Bid as bid}
-use Rattle.engine.specs.Memory.{venueOf}
-use Rattle.engine.proofs.ApplyLaws.{not-refused, may-accept, reports-have-room}
+use Rattle.engine.specs.rules.Layout.{venueOf}
+use Rattle.engine.proofs.refinement.ApplyLaws.{not-refused, may-accept, reports-have-room}
 use Rattle.engine.proofs.apply.accept_bid.Statement.{statement}
 use Rattle.engine.proofs.apply.accept_bid.Tie as tie
 

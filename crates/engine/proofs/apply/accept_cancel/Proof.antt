@@ -4,9 +4,10 @@ use mathlib.Core.Path.{refl, sym, ap, subst}
 use Prim.Native.Nat.{ℕ}
 use borrow.Author.Needs.{needs}
 use Rattle.engine.specs.declared.Event.the-variants.{Cancel as cancel}
-use Rattle.engine.specs.Memory.{venueOf, Room, effectIn}
-use Rattle.engine.proofs.ApplyLaws.{not-refused, may-accept, reports-have-room}
-use Rattle.engine.proofs.CancelLaws.{found-at, not-absent, accepts-as}
+use Rattle.engine.specs.steps.Memory.{Room, effectIn}
+use Rattle.engine.specs.rules.Layout.{venueOf}
+use Rattle.engine.proofs.refinement.ApplyLaws.{not-refused, may-accept, reports-have-room}
+use Rattle.engine.proofs.refinement.CancelLaws.{found-at, not-absent, accepts-as}
 use Rattle.engine.proofs.apply.accept_cancel.Statement.{statement}
 use Rattle.engine.proofs.apply.accept_cancel.Tie as tie
 

@@ -5,7 +5,7 @@ use borrow.Author.Needs.{needs}
 use borrow.Author.Tests.{lt-leb, le-leb}
 use Rattle.numbers.specs.Answers.{gives}
 use Rattle.numbers.proofs.TestLaws.{not-yes, not-no}
-use Rattle.engine.proofs.CopyLaws.{copy-broken, copy-short, copy-fills, sound-book}
+use Rattle.engine.proofs.refinement.CopyLaws.{copy-broken, copy-short, copy-fills, sound-book}
 use Rattle.engine.proofs.copy.copy_answer.Statement.{statement}
 use Rattle.engine.proofs.copy.copy_answer.Tie as tie
 

@@ -54,10 +54,11 @@ use denote.Triple.Walked.{says, Stays, stay-none-slice, stay-slice, walkOf, AllG
 use denote.Triple.Clauses.{ensured, lasts}
 use denote.Exit.{yes}
 use Rattle.book.specs.declared.Order.{Order}
-use Rattle.book.specs.Words.{emptyOrder, resting, Book}
+use Rattle.book.specs.rules.Words.{emptyOrder, resting}
+use Rattle.book.specs.steps.BookSteps.{Book}
 use Rattle.engine.specs.declared.CopyAnswer.{CopyAnswer}
-use Rattle.engine.specs.Copy.{copyOutcome, copied, outcomeOfCopy, filledBy}
-use Rattle.engine.proofs.CopyLaws.{fillTo, fill-none, fill-next, fill-length, orderOut, copies, copy-is, turn-within}
+use Rattle.engine.specs.rules.Copy.{copyOutcome, copied, outcomeOfCopy, filledBy}
+use Rattle.engine.proofs.refinement.CopyLaws.{fillTo, fill-none, fill-next, fill-length, orderOut, copies, copy-is, turn-within}
 use Rattle.book.proofs.Order as T
 use Rattle.book.proofs.Order.Laws as T′
 use Rattle.book.proofs.words.load as a

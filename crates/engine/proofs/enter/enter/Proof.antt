@@ -2,9 +2,9 @@
 use mathlib.Core.Path.{ap}
 use native.Mathlib.Omega.{arith}
 use borrow.Author.Needs.{needs}
-use Rattle.engine.specs.Venue.{Venue}
-use Rattle.engine.proofs.MemoryLaws.{does-becomes}
-use Rattle.engine.proofs.EnterLaws.{entry-room, entry-enters, work-room, entry-done}
+use Rattle.engine.specs.rules.Venue.{Venue}
+use Rattle.engine.proofs.refinement.MemoryLaws.{does-becomes}
+use Rattle.engine.proofs.refinement.EnterLaws.{entry-room, entry-enters, work-room, entry-done}
 use Rattle.engine.proofs.enter.enter.Statement.{statement}
 use Rattle.engine.proofs.enter.enter.Tie as tie
 

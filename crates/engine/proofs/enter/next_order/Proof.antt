@@ -6,9 +6,9 @@ use lib.Dec.{T}
 use borrow.Author.Needs.{needs}
 use Rattle.prices.specs.Prices.{isBid}
 use Rattle.engine.specs.declared.Market.{Market}
-use Rattle.engine.specs.Working.{orderOf}
-use Rattle.engine.specs.Memory.{venueOf}
-use Rattle.engine.proofs.EnterLaws.{accept-bid, accept-stamps}
+use Rattle.engine.specs.rules.Working.{orderOf}
+use Rattle.engine.specs.rules.Layout.{venueOf}
+use Rattle.engine.proofs.refinement.EnterLaws.{accept-bid, accept-stamps}
 use Rattle.engine.proofs.enter.next_order.Statement.{statement}
 use Rattle.engine.proofs.enter.next_order.Tie as tie
 

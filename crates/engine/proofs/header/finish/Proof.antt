@@ -1,8 +1,8 @@
 -- `finish` writes its three header words. Assumes nothing.
 use native.Mathlib.Omega.{arith}
 use borrow.Author.Needs.{needs}
-use Rattle.engine.specs.Memory.{venueOf}
-use Rattle.engine.proofs.MemoryLaws.{event-finished}
+use Rattle.engine.specs.rules.Layout.{venueOf}
+use Rattle.engine.proofs.refinement.MemoryLaws.{event-finished}
 use Rattle.engine.proofs.header.finish.Statement.{statement}
 use Rattle.engine.proofs.header.finish.Tie as tie
 

@@ -1,8 +1,8 @@
 -- `finish_same` counts the event. Assumes nothing.
 use native.Mathlib.Omega.{arith}
 use borrow.Author.Needs.{needs}
-use Rattle.engine.specs.Memory.{venueOf}
-use Rattle.engine.proofs.MemoryLaws.{events-counted}
+use Rattle.engine.specs.rules.Layout.{venueOf}
+use Rattle.engine.proofs.refinement.MemoryLaws.{events-counted}
 use Rattle.engine.proofs.header.finish_same.Statement.{statement}
 use Rattle.engine.proofs.header.finish_same.Tie as tie
 

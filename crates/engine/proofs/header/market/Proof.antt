@@ -1,6 +1,6 @@
 -- `market` reads its three header words. Assumes nothing.
 use borrow.Author.Needs.{needs}
-use Rattle.engine.specs.Memory.{venueOf}
+use Rattle.engine.specs.rules.Layout.{venueOf}
 use Rattle.engine.proofs.header.market.Statement.{statement}
 use Rattle.engine.proofs.header.market.Tie as tie
 

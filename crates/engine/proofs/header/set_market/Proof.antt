@@ -1,6 +1,6 @@
 -- `set_market` writes its three header words. Assumes nothing.
 use borrow.Author.Needs.{needs}
-use Rattle.engine.proofs.MemoryLaws.{market-set}
+use Rattle.engine.proofs.refinement.MemoryLaws.{market-set}
 use Rattle.engine.proofs.header.set_market.Statement.{statement}
 use Rattle.engine.proofs.header.set_market.Tie as tie
 

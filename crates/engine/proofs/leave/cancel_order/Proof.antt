@@ -2,7 +2,7 @@
 use mathlib.Core.Path.{ap}
 use native.Mathlib.Omega.{arith}
 use lib.ListN.{length}
-use Rattle.engine.proofs.LeaveLaws.{cancel-bytes, taken-accepts, cancel-done}
+use Rattle.engine.proofs.refinement.LeaveLaws.{cancel-bytes, taken-accepts, cancel-done}
 use borrow.Author.Needs.{needs}
 use Rattle.engine.proofs.leave.cancel_order.Statement.{statement}
 use Rattle.engine.proofs.leave.cancel_order.Tie as tie

@@ -1,9 +1,9 @@
 -- `end_day`: the reports, the orders taken out, the market set, the event counted. Assumes nothing.
 use mathlib.Core.Path.{_≡_, ap, _∙_}
 use Rattle.engine.specs.declared.Event.the-variants.{DayEnd as dayEnd}
-use Rattle.engine.specs.Market.{marketAfter}
-use Rattle.engine.specs.Memory.{venueOf}
-use Rattle.engine.proofs.LeaveLaws.{cancels-fit, ended-fits, emptied-ordered, emptied-in, emptied-accepts, day-done}
+use Rattle.engine.specs.rules.Market.{marketAfter}
+use Rattle.engine.specs.rules.Layout.{venueOf}
+use Rattle.engine.proofs.refinement.LeaveLaws.{cancels-fit, ended-fits, emptied-ordered, emptied-in, emptied-accepts, day-done}
 use borrow.Author.Needs.{needs}
 use Rattle.engine.proofs.leave.end_day.Statement.{statement}
 use Rattle.engine.proofs.leave.end_day.Tie as tie

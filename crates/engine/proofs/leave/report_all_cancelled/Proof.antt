@@ -5,11 +5,11 @@ use native.Mathlib.Omega.{arith}
 use lib.ListN.{drop}
 use borrow.Author.Needs.{needs}
 use Rattle.numbers.proofs.WriteLaws.{Remaining, remaining-all, remaining-fits, remaining-put, remaining-none}
-use Rattle.book.specs.Words.{resting}
-use Rattle.engine.specs.Reports.{cancelled, endOfDay}
-use Rattle.engine.specs.Venue.{cancelledAtEnd}
-use Rattle.engine.specs.Records.{reportBytes, reportsBytes}
-use Rattle.engine.proofs.LeaveLaws.{remaining-as, cancels-next, cancels-none}
+use Rattle.book.specs.rules.Words.{resting}
+use Rattle.engine.specs.rules.Reports.{cancelled, endOfDay}
+use Rattle.engine.specs.rules.Venue.{cancelledAtEnd}
+use Rattle.engine.specs.rules.Records.{reportBytes, reportsBytes}
+use Rattle.engine.proofs.refinement.LeaveLaws.{remaining-as, cancels-next, cancels-none}
 use Rattle.engine.proofs.leave.report_all_cancelled.Statement.{statement}
 use Rattle.engine.proofs.leave.report_all_cancelled.Tie as tie
 

@@ -1,6 +1,6 @@
 -- `open` by whether the close is legal. Assumes nothing.
 use mathlib.Core.Path.{sym, _∙_}
-use Rattle.engine.proofs.OpeningLaws.{opens-yes, opens-no}
+use Rattle.engine.proofs.refinement.OpeningLaws.{opens-yes, opens-no}
 use borrow.Author.Needs.{needs}
 use Rattle.engine.proofs.open.open.Statement.{statement}
 use Rattle.engine.proofs.open.open.Tie as tie

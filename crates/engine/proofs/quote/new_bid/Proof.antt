@@ -1,9 +1,9 @@
 -- `new_bid`: the market, then the pass. Assumes nothing.
 use mathlib.Core.Path.{_≡_, ap, _∙_}
 use Rattle.engine.specs.declared.Event.the-variants.{Bid as bid}
-use Rattle.engine.specs.Market.{marketAfter}
-use Rattle.engine.specs.Memory.{venueOf}
-use Rattle.engine.proofs.QuoteLaws.{bid-may, bid-done}
+use Rattle.engine.specs.rules.Market.{marketAfter}
+use Rattle.engine.specs.rules.Layout.{venueOf}
+use Rattle.engine.proofs.refinement.QuoteLaws.{bid-may, bid-done}
 use borrow.Author.Needs.{needs}
 use Rattle.engine.proofs.quote.new_bid.Statement.{statement}
 use Rattle.engine.proofs.quote.new_bid.Tie as tie

@@ -1,5 +1,5 @@
 -- `new_tape`: the report of the restriction, the market, then the pass. Assumes nothing.
-use Rattle.engine.proofs.QuoteLaws.{tape-first, tape-may, tape-done}
+use Rattle.engine.proofs.refinement.QuoteLaws.{tape-first, tape-may, tape-done}
 use borrow.Author.Needs.{needs}
 use Rattle.engine.proofs.quote.new_tape.Statement.{statement}
 use Rattle.engine.proofs.quote.new_tape.Tie as tie

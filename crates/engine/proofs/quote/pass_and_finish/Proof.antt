@@ -1,5 +1,5 @@
 -- `pass_and_finish`: the pass in the market of the words, then the end of the event. Assumes nothing.
-use Rattle.engine.proofs.QuoteLaws.{pass-may, pass-counts, pass-finishes}
+use Rattle.engine.proofs.refinement.QuoteLaws.{pass-may, pass-counts, pass-finishes}
 use borrow.Author.Needs.{needs}
 use Rattle.engine.proofs.quote.pass_and_finish.Statement.{statement}
 use Rattle.engine.proofs.quote.pass_and_finish.Tie as tie

@@ -1,10 +1,10 @@
 -- `report_restriction`: by whether the phase has changed. Assumes nothing.
 use mathlib.Core.Path.{sym, ap, _∙_}
 use Rattle.numbers.proofs.WriteLaws.{put-none}
-use Rattle.engine.specs.Reports.{restrictionStarts}
-use Rattle.engine.specs.Records.{reportsBytes}
-use Rattle.engine.proofs.StepLaws.{reports-none, put-as, put-one, room-as, room-one}
-use Rattle.engine.proofs.QuoteLaws.{restriction-same, restriction-new}
+use Rattle.engine.specs.rules.Reports.{restrictionStarts}
+use Rattle.engine.specs.rules.Records.{reportsBytes}
+use Rattle.engine.proofs.refinement.StepLaws.{reports-none, put-as, put-one, room-as, room-one}
+use Rattle.engine.proofs.refinement.QuoteLaws.{restriction-same, restriction-new}
 use borrow.Author.Needs.{needs}
 use Rattle.engine.proofs.quote.report_restriction.Statement.{statement}
 use Rattle.engine.proofs.quote.report_restriction.Tie as tie

@@ -1,10 +1,10 @@
 -- `cancel_refusal` by whether the order was found. Assumes nothing.
 use mathlib.Core.Path.{sym, ap, _∙_}
-use Rattle.book.specs.Words.{resting}
-use Rattle.book.specs.Positions.{orderIn}
-use Rattle.engine.specs.Refusals.{refusalOfKind}
-use Rattle.engine.specs.Memory.{venueOf}
-use Rattle.engine.proofs.RefuseLaws.{found-allowed, absent-refused}
+use Rattle.book.specs.rules.Words.{resting}
+use Rattle.book.specs.steps.Positions.{orderIn}
+use Rattle.engine.specs.rules.Refusals.{refusalOfKind}
+use Rattle.engine.specs.rules.Layout.{venueOf}
+use Rattle.engine.proofs.refinement.RefuseLaws.{found-allowed, absent-refused}
 use borrow.Author.Needs.{needs}
 use Rattle.engine.proofs.refuse.cancel_refusal.Statement.{statement}
 use Rattle.engine.proofs.refuse.cancel_refusal.Tie as tie

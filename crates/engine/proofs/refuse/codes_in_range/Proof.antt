@@ -1,6 +1,6 @@
 -- `codes_in_range` by its tests. Assumes nothing.
 use borrow.Author.Tests.{le-leb, lt-leb}
-use Rattle.engine.specs.Refusals.{codesInRange}
+use Rattle.engine.specs.rules.Refusals.{codesInRange}
 use Rattle.numbers.proofs.TestLaws.{and-last}
 use borrow.Author.Needs.{needs}
 use Rattle.engine.proofs.refuse.codes_in_range.Statement.{statement}

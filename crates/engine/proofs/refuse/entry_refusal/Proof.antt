@@ -2,14 +2,14 @@
 use mathlib.Core.Path.{sym, _∙_}
 use native.Mathlib.Omega.{arith}
 use lib.ListN.{length, getD}
-use Rattle.book.specs.Words.{resting}
+use Rattle.book.specs.rules.Words.{resting}
 use borrow.Author.Tests.{lt-ltb, le-ltb, le-leb, lt-leb}
-use Rattle.book.specs.Sound.{mostShares}
+use Rattle.book.specs.rules.Sound.{mostShares}
 use Rattle.numbers.proofs.TestLaws.{not-yes, not-no}
-use Rattle.engine.specs.Sound.{mostOrders}
-use Rattle.engine.specs.Refusals.{refusalOfKind}
-use Rattle.engine.specs.Memory.{venueOf}
-use Rattle.engine.proofs.RefuseLaws.{refuse-yes, refuse-no}
+use Rattle.engine.specs.rules.Sound.{mostOrders}
+use Rattle.engine.specs.rules.Refusals.{refusalOfKind}
+use Rattle.engine.specs.rules.Layout.{venueOf}
+use Rattle.engine.proofs.refinement.RefuseLaws.{refuse-yes, refuse-no}
 use borrow.Author.Needs.{needs}
 use Rattle.engine.proofs.refuse.entry_refusal.Statement.{statement}
 use Rattle.engine.proofs.refuse.entry_refusal.Tie as tie

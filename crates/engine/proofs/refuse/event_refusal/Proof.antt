@@ -4,10 +4,11 @@ use native.Mathlib.Omega.{arith}
 use lib.ListN.{getD}
 use borrow.Author.Tests.{lt-ltb, le-ltb, le-leb, lt-leb}
 use Rattle.numbers.proofs.TestLaws.{answered-T, not-yes, not-no}
-use Rattle.engine.specs.Sound.{mostEvents}
-use Rattle.engine.specs.Refusals.{leastBuffer}
-use Rattle.engine.specs.Memory.{venueOf, refusalIn}
-use Rattle.engine.proofs.RefuseLaws.{refuse-yes, refuse-no, words-ordered}
+use Rattle.engine.specs.rules.Sound.{mostEvents}
+use Rattle.engine.specs.rules.Refusals.{leastBuffer}
+use Rattle.engine.specs.steps.Memory.{refusalIn}
+use Rattle.engine.specs.rules.Layout.{venueOf}
+use Rattle.engine.proofs.refinement.RefuseLaws.{refuse-yes, refuse-no, words-ordered}
 use borrow.Author.Needs.{needs}
 use Rattle.engine.proofs.refuse.event_refusal.Statement.{statement}
 use Rattle.engine.proofs.refuse.event_refusal.Tie as tie

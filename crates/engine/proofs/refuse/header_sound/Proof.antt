@@ -2,8 +2,8 @@
 use mathlib.Core.Path.{sym, _∙_}
 use borrow.Author.Tests.{le-leb, lt-leb}
 use Rattle.numbers.proofs.TestLaws.{not-yes, not-no, and-yes, and-no, and-last}
-use Rattle.engine.specs.Sound.{mostEvents}
-use Rattle.engine.specs.Memory.{venueOf}
+use Rattle.engine.specs.rules.Sound.{mostEvents}
+use Rattle.engine.specs.rules.Layout.{venueOf}
 use borrow.Author.Needs.{needs}
 use Rattle.engine.proofs.refuse.header_sound.Statement.{statement}
 use Rattle.engine.proofs.refuse.header_sound.Tie as tie

@@ -1,8 +1,8 @@
 -- `kind_refusal` by the kind. Assumes nothing.
 use mathlib.Core.Path.{sym, ap, _∙_}
 use mathlib.Core.Option.{none}
-use Rattle.engine.specs.Refusals.{refuseUnless, refusalOfKind}
-use Rattle.engine.specs.Memory.{venueOf}
+use Rattle.engine.specs.rules.Refusals.{refuseUnless, refusalOfKind}
+use Rattle.engine.specs.rules.Layout.{venueOf}
 use borrow.Author.Needs.{needs}
 use Rattle.engine.proofs.refuse.kind_refusal.Statement.{statement}
 use Rattle.engine.proofs.refuse.kind_refusal.Tie as tie

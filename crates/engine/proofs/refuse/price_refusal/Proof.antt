@@ -1,6 +1,6 @@
 -- `price_refusal` by its test. Assumes nothing.
 use mathlib.Core.Path.{sym}
-use Rattle.engine.proofs.RefuseLaws.{refuse-yes, refuse-no}
+use Rattle.engine.proofs.refinement.RefuseLaws.{refuse-yes, refuse-no}
 use Rattle.engine.proofs.refuse.price_refusal.Statement.{statement}
 use Rattle.engine.proofs.refuse.price_refusal.Tie as tie
 

@@ -1,7 +1,7 @@
 -- `venue_sound`: the length, the header, then the walk over the orders. Assumes nothing.
 use mathlib.Core.Path.{sym, _∙_}
 use Rattle.numbers.proofs.TestLaws.{not-yes, not-no, and-yes, and-no}
-use Rattle.engine.proofs.RefuseLaws.{header-first, short-words}
+use Rattle.engine.proofs.refinement.RefuseLaws.{header-first, short-words}
 use borrow.Author.Needs.{needs}
 use Rattle.engine.proofs.refuse.venue_sound.Statement.{statement}
 use Rattle.engine.proofs.refuse.venue_sound.Tie as tie

@@ -3,7 +3,7 @@ use native.Mathlib.Omega.{arith}
 use lib.ListN.{length-append}
 use Rattle.numbers.specs.Tests.{pick}
 use Rattle.numbers.specs.SevenBit.{groups, bytesOf, bytesOfAll}
-use Rattle.engine.specs.Records.{reportBytes}
+use Rattle.engine.specs.rules.Records.{reportBytes}
 use borrow.Author.Needs.{needs}
 use Rattle.engine.proofs.report.write_cancelled.Statement.{statement}
 use Rattle.engine.proofs.report.write_cancelled.Tie as tie

@@ -1,6 +1,6 @@
 -- Displayed, and clear. Assumes nothing.
 use borrow.Author.Tests.{eq-eqb, ne-eqb}
-use Rattle.engine.specs.Pass.{displayedClear}
+use Rattle.engine.specs.rules.Pass.{displayedClear}
 use Rattle.engine.proofs.slide.displayed_clear.Statement.{statement}
 use Rattle.engine.proofs.slide.displayed_clear.Tie as tie
 

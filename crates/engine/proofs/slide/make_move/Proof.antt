@@ -2,13 +2,13 @@
 use native.Mathlib.Omega.{arith}
 use mathlib.Core.Path.{refl, sym, ap, _∙_}
 use Rattle.book.specs.declared.Order.{Order}
-use Rattle.book.specs.Orders.{without}
-use Rattle.book.specs.Words.{resting}
-use Rattle.book.proofs.HoldsLaws.{holds-as}
-use Rattle.engine.specs.Reports.{cancelled, optOut}
-use Rattle.engine.specs.Pass.{afterMove}
-use Rattle.engine.proofs.StepLaws.{room-as, room-one, does-none, does-report, does-as}
-use Rattle.engine.proofs.SlideSteps.{does-without, moves, move-room, new-price-reports, new-price-orders}
+use Rattle.book.specs.rules.Orders.{without}
+use Rattle.book.specs.rules.Words.{resting}
+use Rattle.book.proofs.refinement.HoldsLaws.{holds-as}
+use Rattle.engine.specs.rules.Reports.{cancelled, optOut}
+use Rattle.engine.specs.rules.Pass.{afterMove}
+use Rattle.engine.proofs.refinement.StepLaws.{room-as, room-one, does-none, does-report, does-as}
+use Rattle.engine.proofs.refinement.SlideSteps.{does-without, moves, move-room, new-price-reports, new-price-orders}
 use borrow.Author.Needs.{needs}
 use Rattle.engine.proofs.slide.make_move.Statement.{statement}
 use Rattle.engine.proofs.slide.make_move.Tie as tie

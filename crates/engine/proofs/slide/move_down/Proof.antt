@@ -1,7 +1,7 @@
 -- Only to a lower price. Assumes nothing.
 use borrow.Author.Tests.{lt-ltb, le-ltb}
 use Rattle.numbers.specs.Tests.{pick}
-use Rattle.engine.specs.Pass.{moveDown}
+use Rattle.engine.specs.rules.Pass.{moveDown}
 use Rattle.engine.proofs.slide.move_down.Statement.{statement}
 use Rattle.engine.proofs.slide.move_down.Tie as tie
 

@@ -4,7 +4,7 @@ use mathlib.Core.Path.{sym, ap, _∙_}
 use borrow.Author.Tests.{eq-eqb, ne-eqb}
 use Rattle.numbers.specs.Tests.{pick}
 use Rattle.engine.specs.declared.Move.the-variants.{Reprice}
-use Rattle.engine.specs.Pass.{moveOf}
+use Rattle.engine.specs.rules.Pass.{moveOf}
 use borrow.Author.Needs.{needs}
 use Rattle.engine.proofs.slide.move_of.Statement.{statement}
 use Rattle.engine.proofs.slide.move_of.Tie as tie

@@ -5,10 +5,10 @@ use mathlib.Core.Path.{_≡_, refl, sym, ap, _∙_}
 use mathlib.Core.List.{_∷_}
 use lib.ListN.{length, getD, drop}
 use Rattle.numbers.proofs.TestLaws.{not-yes}
-use Rattle.book.specs.Words.{resting}
-use Rattle.engine.specs.Steps.{idsOf}
-use Rattle.engine.proofs.StepLaws.{does-none, effect-as}
-use Rattle.engine.proofs.SlideSteps.{Passing, passing-start, passing-room, passing-then, passing-end, pass-off, ids-at, ids-end, turn-stamp}
+use Rattle.book.specs.rules.Words.{resting}
+use Rattle.engine.specs.steps.Steps.{idsOf}
+use Rattle.engine.proofs.refinement.StepLaws.{does-none, effect-as}
+use Rattle.engine.proofs.refinement.SlideSteps.{Passing, passing-start, passing-room, passing-then, passing-end, pass-off, ids-at, ids-end, turn-stamp}
 use borrow.Author.Needs.{needs}
 use Rattle.engine.proofs.slide.pass.Statement.{statement}
 use Rattle.engine.proofs.slide.pass.Tie as tie

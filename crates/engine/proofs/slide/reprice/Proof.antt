@@ -1,5 +1,5 @@
 -- The order is taken out, reported at its new price, and works. Assumes nothing.
-use Rattle.engine.proofs.SlideSteps.{reprice-first, reprice-enters, reprice-room, reprices}
+use Rattle.engine.proofs.refinement.SlideSteps.{reprice-first, reprice-enters, reprice-room, reprices}
 use borrow.Author.Needs.{needs}
 use Rattle.engine.proofs.slide.reprice.Statement.{statement}
 use Rattle.engine.proofs.slide.reprice.Tie as tie

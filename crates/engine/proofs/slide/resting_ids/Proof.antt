@@ -4,8 +4,8 @@ use native.Mathlib.Nat.{not-suc-le-zero}
 use native.Mathlib.Omega.{arith}
 use mathlib.Core.Path.{_≡_, refl}
 use lib.ListN.{length, getD, length-set}
-use Rattle.book.specs.Words.{emptyOrder, resting}
-use Rattle.engine.proofs.SlideSteps.{copy-more}
+use Rattle.book.specs.rules.Words.{emptyOrder, resting}
+use Rattle.engine.proofs.refinement.SlideSteps.{copy-more}
 use borrow.Author.Needs.{needs}
 use Rattle.engine.proofs.slide.resting_ids.Statement.{statement}
 use Rattle.engine.proofs.slide.resting_ids.Tie as tie

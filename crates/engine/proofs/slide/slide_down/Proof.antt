@@ -3,7 +3,7 @@ use Prim.Native.Nat.{ℕ, max}
 use mathlib.Core.Path.{sym, ap, _∙_}
 use borrow.Author.Tests.{eq-eqb, ne-eqb}
 use Rattle.numbers.specs.Tests.{pick}
-use Rattle.engine.specs.Pass.{moveDown, slideDown}
+use Rattle.engine.specs.rules.Pass.{moveDown, slideDown}
 use borrow.Author.Needs.{needs}
 use Rattle.engine.proofs.slide.slide_down.Statement.{statement}
 use Rattle.engine.proofs.slide.slide_down.Tie as tie

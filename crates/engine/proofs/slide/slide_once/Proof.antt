@@ -4,7 +4,7 @@ use mathlib.Core.Path.{sym, ap, _∙_}
 use mathlib.Core.Bool.{true}
 use borrow.Author.Tests.{lt-ltb, le-ltb}
 use Rattle.numbers.specs.Tests.{pick}
-use Rattle.engine.specs.Pass.{moveDown, slideOnce}
+use Rattle.engine.specs.rules.Pass.{moveDown, slideOnce}
 use borrow.Author.Needs.{needs}
 use Rattle.engine.proofs.slide.slide_once.Statement.{statement}
 use Rattle.engine.proofs.slide.slide_once.Tie as tie

@@ -4,13 +4,13 @@ use mathlib.Core.Path.{_≡_, refl, sym, ap, _∙_, subst}
 use mathlib.Core.Option.{some}
 use lib.ListN.{length}
 use Rattle.book.specs.declared.Position.{Position}
-use Rattle.book.specs.Orders.{find}
-use Rattle.book.specs.Words.{resting}
-use Rattle.book.specs.Positions.{orderIn, Below}
-use Rattle.engine.specs.Pass.{Effect, afterMove}
-use Rattle.engine.specs.Steps.{turnOf}
-use Rattle.engine.proofs.StepLaws.{room-as, does-none, effect-as}
-use Rattle.engine.proofs.SlideSteps.{turn-found, turn-absent}
+use Rattle.book.specs.rules.Orders.{find}
+use Rattle.book.specs.rules.Words.{resting}
+use Rattle.book.specs.steps.Positions.{orderIn, Below}
+use Rattle.engine.specs.rules.Pass.{Effect, afterMove}
+use Rattle.engine.specs.steps.Steps.{turnOf}
+use Rattle.engine.proofs.refinement.StepLaws.{room-as, does-none, effect-as}
+use Rattle.engine.proofs.refinement.SlideSteps.{turn-found, turn-absent}
 use borrow.Author.Needs.{needs}
 use Rattle.engine.proofs.slide.turn.Statement.{statement}
 use Rattle.engine.proofs.slide.turn.Tie as tie

@@ -2,7 +2,7 @@
 use mathlib.Core.Path.{sym, _∙_}
 use borrow.Author.Tests.{eq-eqb, ne-eqb}
 use Rattle.numbers.specs.Tests.{pick}
-use Rattle.book.specs.Matching.{counterparty}
+use Rattle.book.specs.rules.Matching.{counterparty}
 use borrow.Author.Needs.{needs}
 use Rattle.engine.proofs.working.counterparty.Statement.{statement}
 use Rattle.engine.proofs.working.counterparty.Tie as tie

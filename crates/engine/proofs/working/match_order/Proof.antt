@@ -4,10 +4,10 @@ use mathlib.Core.Path.{_≡_, sym, ap, _∙_, subst}
 use mathlib.Core.Option.{some}
 use lib.ListN.{length, getD}
 use Rattle.book.specs.declared.Position.{Position}
-use Rattle.book.specs.Matching.{counterparty}
-use Rattle.book.specs.Words.{emptyOrder, resting}
-use Rattle.book.specs.Positions.{orderIn, Below}
-use Rattle.engine.proofs.WorkingSteps.{Matching, matching-start, matching-end, matching-room, matching-then, matching-less}
+use Rattle.book.specs.rules.Matching.{counterparty}
+use Rattle.book.specs.rules.Words.{emptyOrder, resting}
+use Rattle.book.specs.steps.Positions.{orderIn, Below}
+use Rattle.engine.proofs.refinement.WorkingSteps.{Matching, matching-start, matching-end, matching-room, matching-then, matching-less}
 use borrow.Author.Needs.{needs}
 use Rattle.engine.proofs.working.match_order.Statement.{statement}
 use Rattle.engine.proofs.working.match_order.Tie as tie

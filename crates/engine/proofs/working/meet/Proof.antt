@@ -1,6 +1,6 @@
 -- The report of the meeting, and what it leaves of both orders. Assumes nothing.
 use native.Mathlib.Omega.{arith}
-use Rattle.engine.proofs.WorkingSteps.{meet-room, meets}
+use Rattle.engine.proofs.refinement.WorkingSteps.{meet-room, meets}
 use borrow.Author.Needs.{needs}
 use Rattle.engine.proofs.working.meet.Statement.{statement}
 use Rattle.engine.proofs.working.meet.Tie as tie

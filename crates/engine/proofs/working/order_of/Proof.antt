@@ -1,5 +1,5 @@
 -- The fields of the entry, at its working price. Assumes nothing.
-use Rattle.engine.specs.Working.{orderOf}
+use Rattle.engine.specs.rules.Working.{orderOf}
 use borrow.Author.Needs.{needs}
 use Rattle.engine.proofs.working.order_of.Statement.{statement}
 use Rattle.engine.proofs.working.order_of.Tie as tie

@@ -1,7 +1,7 @@
 -- The bid is a bid, so that it has a permitted price. Assumes nothing.
 use mathlib.Core.Path.{sym, ap, _∙_}
 use Rattle.prices.specs.Prices.{outcomeOfPrice}
-use Rattle.engine.proofs.MarketLaws.{permittedNow-given, permittedNow-refused}
+use Rattle.engine.proofs.demand3.MarketLaws.{permittedNow-given, permittedNow-refused}
 use borrow.Author.Needs.{needs}
 use Rattle.engine.proofs.working.permitted_now.Statement.{statement}
 use Rattle.engine.proofs.working.permitted_now.Tie as tie

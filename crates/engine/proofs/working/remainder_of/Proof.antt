@@ -1,7 +1,7 @@
 -- What becomes of a remainder, by its shares, life, adjustment and slide. Assumes nothing.
 use borrow.Author.Tests.{eq-eqb, ne-eqb}
 use Rattle.numbers.specs.Tests.{pick}
-use Rattle.engine.specs.Working.{remainder}
+use Rattle.engine.specs.rules.Working.{remainder}
 use Rattle.engine.proofs.working.remainder_of.Statement.{statement}
 use Rattle.engine.proofs.working.remainder_of.Tie as tie
 

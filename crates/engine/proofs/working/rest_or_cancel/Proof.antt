@@ -1,10 +1,10 @@
 -- By what becomes of the remainder. Assumes nothing.
 use mathlib.Core.Path.{sym, _∙_}
 use Rattle.engine.specs.declared.Remainder.the-variants.{Filled, Cancelled, Rests}
-use Rattle.engine.specs.Reports.{cancelled}
-use Rattle.engine.specs.Working.{afterRemainder}
-use Rattle.engine.proofs.StepLaws.{room-one, does-none, does-report}
-use Rattle.engine.proofs.WorkingSteps.{rests-or-cancels, remainder-room, does-insert}
+use Rattle.engine.specs.rules.Reports.{cancelled}
+use Rattle.engine.specs.rules.Working.{afterRemainder}
+use Rattle.engine.proofs.refinement.StepLaws.{room-one, does-none, does-report}
+use Rattle.engine.proofs.refinement.WorkingSteps.{rests-or-cancels, remainder-room, does-insert}
 use borrow.Author.Needs.{needs}
 use Rattle.engine.proofs.working.rest_or_cancel.Statement.{statement}
 use Rattle.engine.proofs.working.rest_or_cancel.Tie as tie

@@ -1,6 +1,6 @@
 -- The phase is 1 or 2, and the mark is 2. Assumes nothing.
 use mathlib.Core.Path.{sym, _∙_}
-use Rattle.engine.specs.Market.{restricted}
+use Rattle.engine.specs.rules.Market.{restricted}
 use borrow.Author.Needs.{needs}
 use Rattle.engine.proofs.working.restricted.Statement.{statement}
 use Rattle.engine.proofs.working.restricted.Tie as tie

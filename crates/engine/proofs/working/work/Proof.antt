@@ -1,5 +1,5 @@
 -- Matching, then the remainder. Assumes nothing.
-use Rattle.engine.proofs.WorkingSteps.{match-room, rest-room, works}
+use Rattle.engine.proofs.refinement.WorkingSteps.{match-room, rest-room, works}
 use borrow.Author.Needs.{needs}
 use Rattle.engine.proofs.working.work.Statement.{statement}
 use Rattle.engine.proofs.working.work.Tie as tie

@@ -2,7 +2,7 @@
 use Prim.Native.Nat.{max}
 use mathlib.Core.Path.{sym, ap, _∙_}
 use Rattle.numbers.specs.Tests.{pick}
-use Rattle.engine.specs.Working.{workingPrice}
+use Rattle.engine.specs.rules.Working.{workingPrice}
 use borrow.Author.Needs.{needs}
 use Rattle.engine.proofs.working.working_price.Statement.{statement}
 use Rattle.engine.proofs.working.working_price.Tie as tie

@@ -2,11 +2,11 @@
 use Prim.Native.Nat.{_+_, _≤_}
 use mathlib.Core.Path.{sym, ap, subst}
 use lib.ListN.{length}
-use Rattle.book.specs.Matching.{Execution}
-use Rattle.engine.specs.Reports.{executed}
-use Rattle.engine.specs.Records.{reportBytes}
-use Rattle.engine.proofs.StepLaws.{put-as}
-use Rattle.engine.proofs.WorkingSteps.{execution-buy, execution-sell}
+use Rattle.book.specs.rules.Matching.{Execution}
+use Rattle.engine.specs.rules.Reports.{executed}
+use Rattle.engine.specs.rules.Records.{reportBytes}
+use Rattle.engine.proofs.refinement.StepLaws.{put-as}
+use Rattle.engine.proofs.refinement.WorkingSteps.{execution-buy, execution-sell}
 use borrow.Author.Needs.{needs}
 use Rattle.engine.proofs.working.write_execution.Statement.{statement}
 use Rattle.engine.proofs.working.write_execution.Tie as tie

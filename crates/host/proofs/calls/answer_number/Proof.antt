@@ -5,9 +5,9 @@ use mathlib.Core.Path.{_∙_, ap, sym, subst}
 use borrow.Author.Needs.{needs}
 use Rattle.numbers.specs.Answers.{refuses}
 use Rattle.engine.specs.declared.Answer.{Answer}
-use Rattle.engine.specs.Calls.{outcomeOfAnswer}
-use Rattle.host.specs.Host.{hostAnswer, CountFits}
-use Rattle.host.proofs.HostLaws.{refusal-small}
+use Rattle.engine.specs.claims.Calls.{outcomeOfAnswer}
+use Rattle.host.specs.rules.Host.{hostAnswer, CountFits}
+use Rattle.host.proofs.refinement.HostLaws.{refusal-small}
 use Rattle.host.proofs.calls.answer_number.Statement.{statement}
 use Rattle.host.proofs.calls.answer_number.Tie as tie
 

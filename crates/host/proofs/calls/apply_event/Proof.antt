@@ -1,6 +1,6 @@
 -- The answer of apply as a number; its byte count fits. Assumes nothing.
 use borrow.Author.Needs.{needs}
-use Rattle.host.proofs.HostLaws.{applied-fits}
+use Rattle.host.proofs.refinement.HostLaws.{applied-fits}
 use native.Mathlib.Omega.{arith}
 use Rattle.host.proofs.calls.apply_event.Statement.{statement}
 use Rattle.host.proofs.calls.apply_event.Tie as tie

@@ -6,7 +6,7 @@ use mathlib.Core.Path.{_≡_, refl, _∙_, ap}
 use mathlib.Core.List.{List, _++_}
 use lib.ListN.{length, take, drop, length-set}
 use lib.Seq.{take-all}
-use Rattle.host.proofs.HostLaws.{front-more}
+use Rattle.host.proofs.refinement.HostLaws.{front-more}
 use Rattle.host.proofs.calls.copy_words.Statement.{statement}
 use Rattle.host.proofs.calls.copy_words.Tie as tie
 

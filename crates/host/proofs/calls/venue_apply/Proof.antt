@@ -5,8 +5,8 @@ use mathlib.Core.Path.{sym, ap, _∙_}
 use borrow.Author.Needs.{needs}
 use Rattle.numbers.specs.Answers.{refuses}
 use Rattle.records.specs.RecordAnswers.{outcomeOfRecordRead}
-use Rattle.host.specs.Host.{hostAnswer}
-use Rattle.host.proofs.HostLaws.{read-refusal-small, read-words, apply-refused, apply-read}
+use Rattle.host.specs.rules.Host.{hostAnswer}
+use Rattle.host.proofs.refinement.HostLaws.{read-refusal-small, read-words, apply-refused, apply-read}
 use Rattle.host.proofs.calls.venue_apply.Statement.{statement}
 use Rattle.host.proofs.calls.venue_apply.Tie as tie
 

@@ -4,8 +4,8 @@ use native.Mathlib.Omega.{arith}
 use mathlib.Core.Path.{ap}
 use borrow.Author.Needs.{needs}
 use Rattle.numbers.specs.Answers.{refuses}
-use Rattle.host.specs.Host.{hostAnswer}
-use Rattle.host.proofs.HostLaws.{refusal-small, opens-length, open-short, open-refused, open-fresh}
+use Rattle.host.specs.rules.Host.{hostAnswer}
+use Rattle.host.proofs.refinement.HostLaws.{refusal-small, opens-length, open-short, open-refused, open-fresh}
 use Rattle.host.proofs.calls.venue_open.Statement.{statement}
 use Rattle.host.proofs.calls.venue_open.Tie as tie
 

@@ -1,7 +1,7 @@
 -- The price of the answer, and 0 for the refusal. Assumes nothing.
 use mathlib.Core.Path.{sym, ap, _∙_}
 use Rattle.prices.specs.Prices.{outcomeOfPrice}
-use Rattle.host.specs.Host.{valueOrZero}
+use Rattle.host.specs.rules.Host.{valueOrZero}
 use borrow.Author.Needs.{needs}
 use Rattle.host.proofs.calls.venue_permitted_price.Statement.{statement}
 use Rattle.host.proofs.calls.venue_permitted_price.Tie as tie

@@ -1,7 +1,7 @@
 -- The end of the record that was read, and 0 for a refusal. Assumes nothing.
 use mathlib.Core.Path.{sym, ap, _∙_}
 use Rattle.records.specs.RecordAnswers.{outcomeOfRecordRead}
-use Rattle.host.specs.Host.{endOrZero}
+use Rattle.host.specs.rules.Host.{endOrZero}
 use borrow.Author.Needs.{needs}
 use Rattle.host.proofs.calls.venue_record_check.Statement.{statement}
 use Rattle.host.proofs.calls.venue_record_check.Tie as tie

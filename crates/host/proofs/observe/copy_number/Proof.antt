@@ -2,8 +2,8 @@
 use native.Mathlib.Omega.{arith}
 use mathlib.Core.Path.{subst}
 use Rattle.engine.specs.declared.CopyAnswer.{CopyAnswer}
-use Rattle.engine.specs.Copy.{outcomeOfCopy}
-use Rattle.host.specs.Host.{CountFits}
+use Rattle.engine.specs.rules.Copy.{outcomeOfCopy}
+use Rattle.host.specs.rules.Host.{CountFits}
 use borrow.Author.Needs.{needs}
 use Rattle.host.proofs.observe.copy_number.Statement.{statement}
 use Rattle.host.proofs.observe.copy_number.Tie as tie

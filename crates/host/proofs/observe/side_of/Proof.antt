@@ -1,7 +1,7 @@
 -- Each return has the test that leads there. Assumes nothing.
 use borrow.Author.Tests.{eq-eqb, ne-eqb}
 use Rattle.numbers.specs.Tests.{pick}
-use Rattle.host.specs.Observe.{sideOf}
+use Rattle.host.specs.rules.Observe.{sideOf}
 use Rattle.host.proofs.observe.side_of.Statement.{statement}
 use Rattle.host.proofs.observe.side_of.Tie as tie
 

@@ -40,16 +40,16 @@ use Rattle.prices.proofs.Returned.{returned}
 use Rattle.book.specs.declared.Order.{Order}
 use Rattle.book.proofs.Order as T
 use Rattle.engine.specs.declared.CopyAnswer.{CopyAnswer}
-use Rattle.engine.specs.Copy.{copyOutcome, copied, outcomeOfCopy}
-use Rattle.engine.proofs.CopyLaws.{copied-length}
+use Rattle.engine.specs.rules.Copy.{copyOutcome, copied, outcomeOfCopy}
+use Rattle.engine.proofs.refinement.CopyLaws.{copied-length}
 use Rattle.engine.proofs.CopyAnswer as D
 use Rattle.engine.proofs.CopyAnswer.Laws as D′
 use Rattle.engine.proofs.copy.copy_out as a
 use Rattle.engine.proofs.copy.copy_out.Symbol as a-def
 use Rattle.engine.proofs.copy.copy_out.Symbol.{name as #copy-out}
 use Rattle.engine.proofs.copy.copy_out.Met as a-thm
-use Rattle.host.specs.Host.{hostAnswer, CountFits}
-use Rattle.host.proofs.CopyCount.{copy-fits}
+use Rattle.host.specs.rules.Host.{hostAnswer, CountFits}
+use Rattle.host.proofs.refinement.CopyCount.{copy-fits}
 use Rattle.host.proofs.observe.copy_number as k
 use Rattle.host.proofs.observe.copy_number.Symbol as k-def
 use Rattle.host.proofs.observe.copy_number.Symbol.{name as #copy-number}

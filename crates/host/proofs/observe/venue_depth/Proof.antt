@@ -36,8 +36,8 @@ use denote.Triple.Table.{entered, cited}
 use denote.Triple.Walked.{says, Stays, stay-none-slice, stay-none, walkOf, AllGo, goes-none, goes-none-slice, Walks, ends-at, walked, walk-meets}
 use denote.Triple.Clauses.{ensured, lasts}
 use denote.Exit.{yes}
-use Rattle.book.specs.Depth.{depthOf, outcomeOfDepth}
-use Rattle.host.specs.Observe.{sideOf, depthNumber}
+use Rattle.book.specs.rules.Depth.{depthOf, outcomeOfDepth}
+use Rattle.host.specs.rules.Observe.{sideOf, depthNumber}
 use Rattle.book.specs.declared.Order.{Order}
 use Rattle.book.specs.declared.Side.{Side}
 use Rattle.book.specs.declared.DepthAnswer.{DepthAnswer}

@@ -45,8 +45,8 @@ use Rattle.prices.proofs.restriction.watch as a
 use Rattle.prices.proofs.restriction.watch.Symbol as a-def
 use Rattle.prices.proofs.restriction.watch.Symbol.{name as #watch}
 use Rattle.prices.proofs.restriction.watch.Met as a-thm
-use Rattle.host.specs.Host.{hostAnswer}
-use Rattle.host.specs.Observe.{watchCount}
+use Rattle.host.specs.rules.Host.{hostAnswer}
+use Rattle.host.specs.rules.Observe.{watchCount}
 use Rattle.host.proofs.observe.watch_number as k
 use Rattle.host.proofs.observe.watch_number.Symbol as k-def
 use Rattle.host.proofs.observe.watch_number.Symbol.{name as #watch-number}

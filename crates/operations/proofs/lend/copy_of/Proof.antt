@@ -48,7 +48,7 @@ use denote.Triple.Table.{entered, cited}
 use denote.Triple.Walked.{says, Stays, stay-dropped, walkOf, AllGo, goes-dropped, Walks, ends-at, walked, walk-meets}
 use denote.Triple.Clauses.{ensured, lasts}
 use denote.Exit.{yes}
-use Rattle.engine.specs.Copy.{copied, copyOutcome, outcomeOfCopy}
+use Rattle.engine.specs.rules.Copy.{copied, copyOutcome, outcomeOfCopy}
 use Rattle.book.specs.declared.Order.{Order}
 use Rattle.engine.specs.declared.CopyAnswer.{CopyAnswer}
 use Rattle.operations.specs.declared.CopySeen.{CopySeen}

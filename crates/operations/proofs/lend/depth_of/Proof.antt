@@ -44,7 +44,7 @@ use denote.Triple.Table.{entered, cited}
 use denote.Triple.Walked.{says, Stays, stay-dropped, walkOf, AllGo, goes-dropped, Walks, ends-at, walked, walk-meets}
 use denote.Triple.Clauses.{ensured, lasts}
 use denote.Exit.{yes}
-use Rattle.book.specs.Depth.{depthOf, outcomeOfDepth}
+use Rattle.book.specs.rules.Depth.{depthOf, outcomeOfDepth}
 use Rattle.book.specs.declared.Order.{Order}
 use Rattle.book.specs.declared.Side.{Side}
 use Rattle.book.specs.declared.DepthAnswer.{DepthAnswer}

@@ -2,7 +2,7 @@
 use native.Mathlib.Omega.{arith}
 use borrow.Author.Tests.{ne-eqb, le-leb, lt-leb}
 use Rattle.numbers.specs.Tests.{pick}
-use Rattle.engine.specs.Records.{recordFields}
+use Rattle.engine.specs.rules.Records.{recordFields}
 use borrow.Author.Needs.{needs}
 use Rattle.records.proofs.record.read_event.Statement.{statement}
 use Rattle.records.proofs.record.read_event.Tie as tie

@@ -1,7 +1,7 @@
 -- The number at the offset is the kind, and its event is what stands there. Assumes nothing.
 use mathlib.Core.Path.{sym, ap, _∙_}
 use Rattle.numbers.specs.SevenBit.{outcomeOfRead}
-use Rattle.engine.specs.Records.{byKind, formAt, recordAt}
+use Rattle.engine.specs.rules.Records.{byKind, formAt, recordAt}
 use borrow.Author.Needs.{needs}
 use Rattle.records.proofs.record.read_record.Statement.{statement}
 use Rattle.records.proofs.record.read_record.Tie as tie

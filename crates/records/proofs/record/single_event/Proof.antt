@@ -2,7 +2,7 @@
 use native.Mathlib.Omega.{arith}
 use borrow.Author.Tests.{ne-eqb}
 use Rattle.numbers.specs.Tests.{pick}
-use Rattle.engine.specs.Records.{eventOf}
+use Rattle.engine.specs.rules.Records.{eventOf}
 use Rattle.records.proofs.record.single_event.Statement.{statement}
 use Rattle.records.proofs.record.single_event.Tie as tie
 

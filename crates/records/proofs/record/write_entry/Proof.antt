@@ -1,5 +1,5 @@
 -- The numbers written are those of the entry's record. Assumes nothing.
-use Rattle.engine.specs.Records.{recordBytes}
+use Rattle.engine.specs.rules.Records.{recordBytes}
 use borrow.Author.Needs.{needs}
 use Rattle.records.proofs.record.write_entry.Statement.{statement}
 use Rattle.records.proofs.record.write_entry.Tie as tie

@@ -1,5 +1,5 @@
 -- Each kind of event is written as its record. Assumes nothing.
-use Rattle.engine.specs.Records.{recordBytes}
+use Rattle.engine.specs.rules.Records.{recordBytes}
 use borrow.Author.Needs.{needs}
 use Rattle.records.proofs.record.write_record.Statement.{statement}
 use Rattle.records.proofs.record.write_record.Tie as tie

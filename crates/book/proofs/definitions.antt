@@ -1,0 +1,9 @@
+-- Laws of the rules.
+pub mod ShareLaws
+pub mod OrderLaws
+pub mod RisingLaws
+pub mod OrderConditionLaws
+pub mod CounterpartyLaws
+pub mod PriorityLaws
+pub mod MeetingLaws
+pub mod MatchingLaws

@@ -1,0 +1,79 @@
+-- The conditions of refusal 16 on one order, as facts. Assumes nothing.
+use Prim.Native.Nat.{ℕ, _≤_}
+use native.Mathlib.Omega.{arith}
+use mathlib.Core.Path.{_≡_}
+use lib.Dec.{T, leb→le, le→leb, eqb→eq}
+use Rattle.numbers.proofs.TestLaws.{Each, conj-T, T-conj, eq→T, tests}
+use Rattle.prices.specs.Prices.{legal, isBid}
+use Rattle.book.specs.declared.Order.{Order}
+use Rattle.book.specs.rules.Orders.{reduced}
+use Rattle.book.specs.rules.Sound.{mostShares, slideAllowed, orderConditions, soundOrder}
+
+-- what an order has from its entry on
+abbrev pub FieldsSound : Order → Type 0
+FieldsSound o =
+    record {
+      mark : o.mark ≤ 3;
+      limit : T (legal (o .limit));
+      show : o.show ≤ 1;
+      life : o.life ≤ 1;
+      slide : T (slideAllowed (o .mark) (o .slide));
+      entryBid : T (isBid (o .«entry_bid»));
+    }
+
+-- an order that may work, and one that may rest; n is the last id and s the last stamp
+abbrev pub MayWork : ℕ → ℕ → Order → Type 0
+MayWork n s o =
+    record {
+      fields : FieldsSound o;
+      id : o.id ≤ n;
+      first : 1 ≤ o.stamp;
+      last : o.stamp ≤ s;
+      price : T (legal (o .price));
+      most : o.shares ≤ mostShares;
+    }
+
+abbrev pub MayRest : ℕ → ℕ → Order → Type 0
+MayRest n s o = record { works : MayWork n s o; least : 1 ≤ o.shares; day : o.life ≡ 0 }
+
+-- the order with q shares less
+pub mayWork-reduced : (n s q : ℕ) (o : Order) → MayWork n s o → MayWork n s (reduced q o)
+mayWork-reduced n s q o h =
+    record { fields = h .fields; id = h .id; first = h .first; last = h .last; price = h .price; most = omega (arith, h .most) }
+
+-- the same order under a later id and stamp
+pub mayRest-later : (n s m r : ℕ) → n ≤ m → s ≤ r → (o : Order) → MayRest n s o → MayRest m r o
+mayRest-later n s m r l k o h =
+    let w = h .works in
+    record {
+      works = record { fields = w .fields; id = omega (arith, w .id); first = w .first; last = omega (arith, w .last); price = w .price; most = w .most };
+      least = h .least;
+      day = h .day;
+    }
+
+pub order-mayRest : (n s : ℕ) (o : Order) → T (soundOrder n s o) → MayRest n s o
+unfolding soundOrder
+order-mayRest n s o t = go (conj-T (orderConditions n s o) t)
+  where
+    go : Each (orderConditions n s o) → MayRest n s o
+    go (id, (mark, (limit, (least, (most, (show, (life, (slide, (first, (last, (price, (entryBid, end)))))))))))) =
+        record {
+          works =
+              record {
+                fields = record { mark = leb→le _ _ mark; limit = limit; show = leb→le _ _ show; life = omega tests; slide = slide; entryBid = entryBid };
+                id = leb→le _ _ id;
+                first = leb→le _ _ first;
+                last = leb→le _ _ last;
+                price = price;
+                most = leb→le _ _ most;
+              };
+          least = leb→le _ _ least;
+          day = eqb→eq _ _ life;
+        }
+
+pub mayRest-order : (n s : ℕ) (o : Order) → MayRest n s o → T (soundOrder n s o)
+unfolding soundOrder
+mayRest-order n s o h =
+    let w = h .works in
+    let f = w .fields in
+    T-conj (orderConditions n s o) (le→leb _ _ (w .id), (le→leb _ _ (f .mark), (f .limit, (le→leb _ _ (h .least), (le→leb _ _ (w .most), (le→leb _ _ (f .show), (eq→T (h .day), (f .slide, (le→leb _ _ (w .first), (le→leb _ _ (w .last), (w .price, (f .entryBid, tt))))))))))))

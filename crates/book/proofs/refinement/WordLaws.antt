@@ -1,0 +1,147 @@
+-- Laws of a book's words: its orders by their words, and the layout test. Assumes nothing.
+use Prim.Native.Nat.{ℕ, zero, suc, _+_, _*_, _≤_, _<_, zero-le, suc-le-suc}
+use native.Mathlib.Nat.{add-zero, le-of-suc-le-suc, not-suc-le-zero}
+use native.Mathlib.Omega.{arith}
+use mathlib.Core.Path.{_≡_, refl, sym, ap, _∙_, subst}
+use mathlib.Core.Bool.{Bool, true, false}
+use mathlib.Core.List.{List, [], _∷_}
+use lib.Dec.{T, eqb, leb, leb→le, le→leb}
+use lib.ListN.{length, getD}
+use Rattle.numbers.specs.Tests.{conj}
+use Rattle.numbers.proofs.TestLaws.{and-T, T-and}
+use Rattle.book.specs.declared.Order.{Order}
+use Rattle.book.specs.rules.Words.{venueWords, orderOf, flagWord, emptyOrder, tabulate, word, orderAt, resting, flagsAt, isBook}
+use Rattle.book.specs.steps.BookSteps.{Book}
+use Rattle.book.specs.steps.WordSteps.{Row}
+use Rattle.book.proofs.refinement.TabulateLaws.{by-order, length-tabulate, getD-tabulate, tabulate-ext}
+
+-- two orders whose words are the same are one
+pub order-ext : (f g : ℕ → ℕ) → ((k : ℕ) → k < 13 → f k ≡ g k) → orderOf (tabulate 13 f) ≡ orderOf (tabulate 13 g)
+order-ext f g h = ap orderOf (tabulate-ext 13 f g h)
+
+pub resting-length : (w : List ℕ) → length (resting w) ≡ getD w 0 0
+unfolding resting
+resting-length w = length-tabulate (getD w 0 0) (orderAt w)
+
+pub resting-at : (w : List ℕ) (i : ℕ) → i < length (resting w) → getD (resting w) i emptyOrder ≡ orderAt w i
+unfolding resting
+resting-at w i h = getD-tabulate (getD w 0 0) (orderAt w) i emptyOrder (rw length-tabulate at h)
+
+-- the orders of words whose count is n
+pub resting-tabulate : (w : List ℕ) (n : ℕ) (l : List Order) → getD w 0 0 ≡ n → tabulate n (orderAt w) ≡ l → resting w ≡ l
+unfolding resting
+resting-tabulate w n l e h = ap (λ (m : ℕ). tabulate m (orderAt w)) e ∙ h
+
+pub resting-is : (w : List ℕ) → tabulate (getD w 0 0) (orderAt w) ≡ resting w
+unfolding resting
+resting-is w = refl
+
+pub resting-n : (w : List ℕ) (n : ℕ) → n ≡ length (resting w) → tabulate n (orderAt w) ≡ resting w
+resting-n w n e = ap (λ (m : ℕ). tabulate m (orderAt w)) (e ∙ resting-length w) ∙ resting-is w
+
+-- the order at p, as its words are read one by one
+
+abbrev step : ℕ → ℕ → ℕ
+step p zero = p
+step p (suc k) = p + suc k
+
+step-is : (p k : ℕ) → step p k ≡ p + k
+step-is p zero = sym (add-zero p)
+step-is p (suc k) = refl
+
+pub loaded : (w : List ℕ) (i : ℕ) → i < length (resting w) → orderOf (tabulate 13 (λ k. getD w (step (16 + i * 13) k) 0)) ≡ getD (resting w) i emptyOrder
+loaded w i h =
+    rw (resting-at w i h) (order-ext (λ k. getD w (step (16 + i * 13) k) 0) (word w i) (λ k hk. ap (λ (q : ℕ). getD w q 0) (step-is (16 + i * 13) k)))
+
+-- a flag as a word
+
+flag-back : (b : Bool) (n : ℕ) → n ≡ flagWord b → eqb n 1 ≡ b
+flag-back true n e = rw e
+flag-back false n e = rw e
+
+flag-small : (b : Bool) (n : ℕ) → n ≡ flagWord b → n ≤ 1
+flag-small true n e = omega arith
+flag-small false n e = omega arith
+
+-- what holds at 10, 11 and 12
+pub at-flags : (P : ℕ → Type 0) → P 10 → P 11 → P 12 → (k : ℕ) → 10 ≤ k → k < 13 → P k
+at-flags P a b c k l h =
+    by-order k 11 (λ m. subst P {x = 10} (omega arith) a) (λ m. by-order k 12 (λ n. subst P {x = 11} (omega arith) b) (λ n. subst P {x = 12} (omega arith) c))
+
+pub row-is : (o : Order) (a u c : ℕ) → a ≡ flagWord (o .adjusted) → u ≡ flagWord (o .used) → c ≡ flagWord (o .clear) → Row (o.id ∷ o.mark ∷ o.limit ∷ o.shares ∷ o.show ∷ o.life ∷ o.slide ∷ o.stamp ∷ o.price ∷ o .«entry_bid» ∷ a ∷ u ∷ c ∷ []) o
+row-is o a u c p q r =
+    record {
+      is =
+          λ i. record {
+            id = o.id;
+            mark = o.mark;
+            limit = o.limit;
+            shares = o.shares;
+            show = o.show;
+            life = o.life;
+            slide = o.slide;
+            stamp = o.stamp;
+            price = o.price;
+            «entry_bid» = o .«entry_bid»;
+            adjusted = flag-back (o .adjusted) a p i;
+            used = flag-back (o .used) u q i;
+            clear = flag-back (o .clear) c r i;
+          };
+      flags =
+          at-flags (λ (k : ℕ). getD (o.id ∷ o.mark ∷ o.limit ∷ o.shares ∷ o.show ∷ o.life ∷ o.slide ∷ o.stamp ∷ o.price ∷ o .«entry_bid» ∷ a ∷ u ∷ c ∷ []) k 0 ≤ 1)
+          (flag-small (o .adjusted) a p)
+          (flag-small (o .used) u q)
+          (flag-small (o .clear) c r);
+    }
+
+-- the layout test
+
+flagsAt-T : (w : List ℕ) (i : ℕ) → T (flagsAt w i) → (k : ℕ) → 10 ≤ k → k < 13 → word w i k ≤ 1
+unfolding flagsAt
+flagsAt-T w i t =
+    let a = and-T (leb (word w i 10) 1) _ t in
+    let b = and-T (leb (word w i 11) 1) (leb (word w i 12) 1) (a .1) in
+    at-flags (λ (k : ℕ). word w i k ≤ 1) (leb→le _ _ (a .0)) (leb→le _ _ (b .0)) (leb→le _ _ (b .1))
+
+T-flagsAt : (w : List ℕ) (i : ℕ) → ((k : ℕ) → 10 ≤ k → k < 13 → word w i k ≤ 1) → T (flagsAt w i)
+unfolding flagsAt
+T-flagsAt w i h =
+    T-and (leb (word w i 10) 1) _ (le→leb _ _ (h 10 (omega arith) (omega arith))) (T-and (leb (word w i 11) 1) _ (le→leb _ _ (h 11 (omega arith) (omega arith))) (le→leb _ _ (h 12 (omega arith) (omega arith))))
+
+-- the layout test as facts at each place
+pub record LaidOut (w : List ℕ) : Type 0 where
+  pub long : venueWords ≤ length w
+  pub few : getD w 0 0 ≤ 256
+  pub flags : (i : ℕ) → i < getD w 0 0 → T (flagsAt w i)
+
+conj-at : (n : ℕ) (f : ℕ → Bool) → T (conj (tabulate n f)) → (i : ℕ) → i < n → T (f i)
+conj-at zero f t i l = absurd (not-suc-le-zero l)
+conj-at (suc n) f t zero l = and-T (f zero) (conj (tabulate n (λ k. f (suc k)))) t .0
+conj-at (suc n) f t (suc i) l = conj-at n (λ k. f (suc k)) (and-T (f zero) (conj (tabulate n (λ k. f (suc k)))) t .1) i (le-of-suc-le-suc l)
+
+at-conj : (n : ℕ) (f : ℕ → Bool) → ((i : ℕ) → i < n → T (f i)) → T (conj (tabulate n f))
+at-conj zero f h = tt
+at-conj (suc n) f h =
+    T-and (f zero) (conj (tabulate n (λ k. f (suc k)))) (h zero (suc-le-suc zero-le)) (at-conj n (λ k. f (suc k)) (λ i l. h (suc i) (suc-le-suc l)))
+
+pub isBook-laidOut : (w : List ℕ) → T (isBook w) → LaidOut w
+unfolding isBook
+isBook-laidOut w t =
+    let n = getD w 0 0 in
+    let a = and-T (leb venueWords (length w)) _ t in
+    let b = and-T (leb n 256) (conj (tabulate n (flagsAt w))) (a .1) in
+    record { long = leb→le _ _ (a .0); few = leb→le _ _ (b .0); flags = conj-at n (flagsAt w) (b .1) }
+
+pub laidOut-isBook : (w : List ℕ) → LaidOut w → T (isBook w)
+unfolding isBook
+laidOut-isBook w h =
+    T-and (leb venueWords (length w)) _ (le→leb _ _ (h .long)) (T-and (leb (getD w 0 0) 256) _ (le→leb _ _ (h .few)) (at-conj (getD w 0 0) (flagsAt w) (h .flags)))
+
+pub isBook-book : (w : List ℕ) → T (isBook w) → Book w
+isBook-book w t =
+    let h = isBook-laidOut w t in
+    record { long = h.long; few = omega (arith, resting-length w, h .few); flags = λ i k l. flagsAt-T w i (h .flags i (omega (arith, resting-length w))) k }
+
+pub book-isBook : (w : List ℕ) → Book w → T (isBook w)
+book-isBook w b =
+    laidOut-isBook w (record { long = b.long; few = omega (arith, resting-length w, b .few); flags = λ i l. T-flagsAt w i (λ k. b .flags i k (omega (arith, resting-length w))) })

@@ -1,0 +1,6 @@
+-- The rules of document 01 on orders, in its order, and last what a run of words means as a book.
+pub mod Orders
+pub mod Matching
+pub mod Sound
+pub mod Depth
+pub mod Words

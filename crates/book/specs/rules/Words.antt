@@ -1,0 +1,70 @@
+-- What a run of words means as a book: 16 header words, of which word 0 is the number of orders, then 256 places of 13 words, the
+-- used ones in front; a longer run has further words behind. Assumes nothing.
+use Prim.Native.Nat.{ℕ, zero, suc, _+_, _*_}
+use mathlib.Core.Bool.{Bool, true, false, _&&_}
+use mathlib.Core.List.{List, [], _∷_}
+use lib.Dec.{leb, eqb}
+use lib.ListN.{length, getD}
+use Rattle.numbers.specs.Tests.{conj, every}
+use Rattle.book.specs.declared.Order.{Order}
+use Rattle.book.specs.rules.Sound.{idsRise, soundOrder, stampsDiffer}
+
+-- the words of a venue: 16 + 256 × 13
+abbrev pub venueWords : ℕ
+venueWords = 3344
+
+-- the order whose words these are, in the order of its fields; a flag is the word 0 or 1
+abbrev pub orderOf : List ℕ → Order
+orderOf l =
+    record {
+      id = getD l 0 0;
+      mark = getD l 1 0;
+      limit = getD l 2 0;
+      shares = getD l 3 0;
+      show = getD l 4 0;
+      life = getD l 5 0;
+      slide = getD l 6 0;
+      stamp = getD l 7 0;
+      price = getD l 8 0;
+      «entry_bid» = getD l 9 0;
+      adjusted = eqb (getD l 10 0) 1;
+      used = eqb (getD l 11 0) 1;
+      clear = eqb (getD l 12 0) 1;
+    }
+
+abbrev pub flagWord : Bool → ℕ
+flagWord true = 1
+flagWord false = 0
+
+-- what a list gives past its end
+abbrev pub emptyOrder : Order
+emptyOrder = orderOf []
+
+-- f 0, f 1, .., f (n - 1)
+abbrev pub tabulate {ℓ} : {A : Type ℓ} → ℕ → (ℕ → A) → List A
+tabulate zero f = []
+tabulate (suc n) f = f zero ∷ tabulate n (λ k. f (suc k))
+
+-- word k of place i
+abbrev pub word : List ℕ → ℕ → ℕ → ℕ
+word w i k = getD w (16 + i * 13 + k) 0
+
+abbrev pub orderAt : List ℕ → ℕ → Order
+orderAt w i = orderOf (tabulate 13 (word w i))
+
+-- the orders of a run of words
+unfoldable pub resting : List ℕ → List Order
+resting w = tabulate (getD w 0 0) (orderAt w)
+
+-- the layout: long enough, at most 256 orders, and the flags of each are 0 or 1
+
+unfoldable pub flagsAt : List ℕ → ℕ → Bool
+flagsAt w i = leb (word w i 10) 1 && (leb (word w i 11) 1 && leb (word w i 12) 1)
+
+unfoldable pub isBook : List ℕ → Bool
+isBook w = leb venueWords (length w) && (leb (getD w 0 0) 256 && conj (tabulate (getD w 0 0) (flagsAt w)))
+
+-- the words are a book, and its orders meet the conditions of refusal 16
+unfoldable pub soundBook : ℕ → ℕ → List ℕ → Bool
+soundBook lastId lastStamp w =
+    isBook w && (idsRise 0 (resting w) && (every (soundOrder lastId lastStamp) (resting w) && stampsDiffer (resting w)))

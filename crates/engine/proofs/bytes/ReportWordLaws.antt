@@ -1,0 +1,164 @@
+-- The numbers of an event's reports are 32-bit numbers, from every sound record. Assumes nothing.
+use Prim.Native.Nat.{ℕ, _+_, _<_, _≤_}
+use native.Mathlib.Omega.{arith}
+use mathlib.Core.Path.{_≡_, subst}
+use mathlib.Core.Option.{Option, none, some}
+use mathlib.Core.List.{List, [], _∷_, _++_, map, foldl, List·Memᴰ}
+use lib.Dec.{T}
+use lib.ListN.{length, length-map}
+use Rattle.numbers.specs.Tests.{All}
+use Rattle.numbers.proofs.TestLaws.{by-test, all-map, map-all, all-append}
+use Rattle.prices.specs.Prices.{legal, isBid}
+use Rattle.prices.proofs.PriceLaws.{legal-out}
+use Rattle.book.specs.declared.Order.{Order}
+use Rattle.book.specs.rules.Orders.{find, restingShares, without}
+use Rattle.book.specs.rules.Matching.{Execution, meeting, Matched, matching}
+use Rattle.book.proofs.definitions.OrderLaws.{idOf, Found, find-found, shares-found}
+use Rattle.book.proofs.definitions.MeetingLaws.{execution-by, meeting-known}
+use Rattle.book.proofs.definitions.MatchingLaws.{matching-keeps}
+use Rattle.engine.specs.declared.Market.{Market}
+use Rattle.engine.specs.declared.Event.{Event}
+use Rattle.engine.specs.declared.Event.the-variants.{Entry as entry, Cancel as cancel, Bid as bid, Tape as tape, DayEnd as dayEnd}
+use Rattle.engine.specs.declared.Remainder.{Remainder}
+use Rattle.engine.specs.declared.Remainder.the-variants.{Filled, Cancelled, Rests}
+use Rattle.engine.specs.declared.Move.{Move}
+use Rattle.engine.specs.declared.Move.the-variants.{Stay, Cancel, Reprice}
+use Rattle.engine.specs.rules.Market.{marketAfter}
+use Rattle.engine.specs.rules.Reports.{Report, executed, cancelled, optOut, endOfDay}
+use Rattle.engine.specs.rules.Working.{remainder, afterRemainder, work}
+use Rattle.engine.specs.rules.Pass.{Effect, afterMove, passOne, passOver}
+use Rattle.engine.specs.rules.Venue.{Venue, effectOfEntry, effectOfCancel, thePass, restrictionReport, cancelledAtEnd, effectOfDayEnd, effectOf, lastIdAfter}
+use Rattle.engine.specs.rules.Sound.{mostEvents}
+use Rattle.engine.specs.rules.Refusals.{rests}
+use Rattle.engine.specs.claims.RoundTrips.{Word, ReportWords}
+use Rattle.engine.proofs.refinement.RefusalLaws.{Allowed, NotRefused}
+use Rattle.book.proofs.definitions.OrderConditionLaws.{MayWork}
+use Rattle.engine.proofs.demand3.SoundLaws.{SoundBook, SoundWork, book-distinct, book-order, RemainderOf, remainder-known, meeting-sound, MoveSound, moveOf-sound, atNewPrice-sound, passOne-sound, SoundVenue, sound-venue, workingPrice-legal, orderOf-sound, marketAfter-sound}
+
+-- the fields of an order that reports have
+
+legal-word : (p : ℕ) → T (legal p) → Word p
+legal-word p t = omega (arith, legal-out p t .high)
+
+abbrev OrderWords : Order → Type 0
+OrderWords o = record { id : Word (o .id); price : Word (o .price); shares : Word (o .shares) }
+
+order-words : (n s : ℕ) (o : Order) → Word n → MayWork n s o → OrderWords o
+order-words n s o i h = record { id = omega (arith, h .id); price = legal-word (o .price) (h .price); shares = omega (arith, h .most) }
+
+cancelled-words : (o : Order) (cause : ℕ) → OrderWords o → cause ≤ 4 → ReportWords (cancelled (o .id) (o .shares) cause)
+cancelled-words o cause h l = (omega arith, (h .id, (h .shares, (omega arith, tt))))
+
+-- a working order
+
+abbrev onExecution : List Report → Execution → List Report
+onExecution rs x = executed x ∷ rs
+
+onExecution-all : (rs : List Report) (xs : List Execution) → All ReportWords (foldl onExecution rs xs) → All ReportWords rs × All ReportWords (map executed xs)
+onExecution-all rs [] h = (h, tt)
+onExecution-all rs (x ∷ xs) h = let r = onExecution-all (onExecution rs x) xs h in (r .0 .1, (r .0 .0, r .1))
+
+module _ {n s : ℕ} (i : Word n) where
+  meeting-words : (w o : Order) (os : List Order) → List·Memᴰ o os → SoundWork n s w os → ReportWords (executed ((meeting w o os) .execution))
+  meeting-words w o os m g =
+      let h : OrderWords w = order-words n s w i (g .works) in
+      let k : OrderWords o = order-words n s o i (book-order (g .book) m .works) in
+      rw (meeting-known w o os)
+      (execution-by
+      (λ (x : Execution). ReportWords (executed x))
+      w
+      o
+      _
+      (λ t. (omega arith, (h .id, (k .id, (k .price, (omega (arith, h .shares), tt))))))
+      (λ t. (omega arith, (k .id, (h .id, (k .price, (omega (arith, h .shares), tt)))))))
+
+  matching-words : (w : Order) (os : List Order) → SoundWork n s w os → let m : Matched = matching w os in SoundWork n s (m .rest) (m .orders) × All ReportWords (map executed (m .executions))
+  matching-words w os g =
+      let r = matching-keeps onExecution Kept (λ x o l a h k. (meeting-sound (h .0) (k .0), (meeting-words x o l (h .0) (k .0), k .1))) w os [] (g, tt) in
+      (r .0, onExecution-all [] (matching w os .executions) (r .1) .1)
+    where
+      Kept : Order → List Order → List Report → Type 0
+      Kept x l rs = SoundWork n s x l × All ReportWords rs
+
+  afterRemainder-words : (x : Remainder) (w : Order) (os : List Order) → RemainderOf w x → MayWork n s w → All ReportWords ((afterRemainder x w os) .reports)
+  unfolding afterRemainder
+  afterRemainder-words Filled w os h g = tt
+  afterRemainder-words (Cancelled cause) w os h g = (cancelled-words w cause (order-words n s w i g) (omega (arith, h .1)), tt)
+  afterRemainder-words Rests w os h g = tt
+
+  work-words : (w : Order) (os : List Order) → SoundWork n s w os → All ReportWords ((work w os) .reports)
+  unfolding work
+  work-words w os g =
+      let m : Matched = matching w os in
+      let r = matching-words w os g in
+      all-append ReportWords (map executed (m .executions)) _ (r .1) (afterRemainder-words (remainder (m .rest)) (m .rest) (m .orders) (remainder-known (m .rest)) (r .0 .works))
+
+-- the pass
+
+afterMove-words : {n s : ℕ} → Word n → Word (s + 1) → (x : Move) {o : Order} {os : List Order} → MoveSound x → List·Memᴰ o os → SoundBook n s os → All ReportWords ((afterMove x o os s) .reports)
+unfolding afterMove
+afterMove-words i l Stay h m b = tt
+afterMove-words {n} {s} i l Cancel {o} {os} h m b =
+    (cancelled-words o optOut (order-words n s o i (book-order b m .works)) (omega arith), tt)
+afterMove-words {n} {s} i l (Reprice p used) {o} {os} h m b =
+    let k : OrderWords o = order-words n s o i (book-order b m .works) in
+    ((omega arith, (k .id, (legal-word p h, (l, tt)))), work-words i _ (without (o .id) os) (atNewPrice-sound p used h m b))
+
+module _ (m : Market) (t : T (isBid (m .bid))) (n : ℕ) (i : Word n) where
+  passOne-words : (k : ℕ) (x : Option Order) (os : List Order) (s : ℕ) → Word (s + 1) → Found k os x → SoundBook n s os → All ReportWords ((passOne m x os s) .reports)
+  unfolding passOne
+  passOne-words k none os s l f b = tt
+  passOne-words k (some o) os s l f b = afterMove-words i l _ (moveOf-sound m t o (book-order b (f .0) .works .fields)) (f .0) b
+
+  passOver-words : (is : List ℕ) (os : List Order) (s : ℕ) → Word (s + length is) → SoundBook n s os → All ReportWords ((passOver m is os s) .reports)
+  unfolding passOver
+  passOver-words [] os s l b = tt
+  passOver-words (k ∷ is) os s l b =
+      let x : Effect = passOne m (find k os) os s in
+      let g = passOne-sound m t n k (find k os) os s (find-found k os) b in
+      all-append ReportWords (x .reports) _ (passOne-words k (find k os) os s (omega arith) (find-found k os) b) (passOver-words is (x .orders) (x .stamp) (omega (arith, g .1)) (g .0))
+
+-- events
+
+module _ (v : Venue) (g : SoundVenue v) (l : v.acceptedEvents < mostEvents) (i : Word (v .lastId)) where
+  thePass-words : (m : Market) → T (isBid (m .bid)) → All ReportWords ((thePass m v) .reports)
+  unfolding thePass
+  thePass-words m t =
+      let few = g .book .few in
+      let e = length-map (v .orders) idOf in
+      passOver-words m t (v .lastId) i (map idOf (v .orders)) (v .orders) (v .lastStamp) (omega (arith, g .stamps)) (g .book)
+
+  cancel-words : (k : ℕ) (x : Option Order) → Found k (v .orders) x → T (rests x) → All ReportWords ((effectOfCancel v k) .reports)
+  unfolding effectOfCancel rests
+  cancel-words k none f t = absurd t
+  cancel-words k (some o) f t =
+      let h : OrderWords o = order-words (v .lastId) (v .lastStamp) o i (book-order (g .book) (f .0) .works) in
+      let e : restingShares k (v .orders) ≡ o.shares = subst (λ (j : ℕ). restingShares j (v .orders) ≡ o.shares) (f .1) (shares-found (f .0) (book-distinct (g .book))) in
+      ((omega arith, (omega (arith, f .1, h .id), (omega (arith, h .shares), (omega arith, tt)))), tt)
+
+  effectOf-words : (e : Event) → Allowed v e → Word (lastIdAfter v e) → All ReportWords ((effectOf (marketAfter e (v .market)) v e) .reports)
+  unfolding effectOf effectOfEntry effectOfDayEnd restrictionReport
+  effectOf-words (entry e) f k =
+      ((omega arith, (k, (omega (arith, g .stamps), (legal-word _ (workingPrice-legal (v .market) e (f .price) (g .market .bid)), tt)))), work-words k _ (v .orders) (orderOf-sound v e f g))
+  effectOf-words (cancel j) f k = cancel-words j (find j (v .orders)) (find-found j (v .orders)) f
+  effectOf-words (bid b) f k = thePass-words (marketAfter (bid b) (v .market)) f
+  effectOf-words (tape p) f k =
+      let m : Market = marketAfter (tape p) (v .market) in
+      let r = thePass-words m (g .market .bid) in
+      by-test (λ (rs : List Report). All ReportWords (rs ++ thePass m v .reports)) _ (λ t. r) (λ t. ((omega arith, tt), r))
+  effectOf-words (dayEnd c) f k =
+      let h = all-map (λ o h. cancelled-words o endOfDay (order-words (v .lastId) (v .lastStamp) o i (h .works)) (omega arith)) (v .orders) (g .book .orders) in
+      all-append ReportWords (map cancelledAtEnd (v .orders)) _ (map-all ReportWords cancelledAtEnd (v .orders) h) ((omega arith, (omega (arith, marketAfter-sound v (dayEnd c) f (g .market) .phase), tt)), tt)
+
+-- the last id doesn't fall
+lastId-word : (v : Venue) (e : Event) → Allowed v e → Word (lastIdAfter v e) → Word (v .lastId)
+lastId-word v (entry e) f k = omega (arith, f .newId)
+lastId-word v (cancel i) f k = k
+lastId-word v (bid b) f k = k
+lastId-word v (tape p) f k = k
+lastId-word v (dayEnd c) f k = k
+
+-- the reports of an event that isn't refused
+pub reports-words : (v : Venue) (e : Event) (n : ℕ) → NotRefused v e n → Word (lastIdAfter v e) → All ReportWords ((effectOf (marketAfter e (v .market)) v e) .reports)
+reports-words v e n h k =
+    effectOf-words v (sound-venue v (h .sound)) (h .events) (lastId-word v e (h .allowed) k) e (h .allowed) k

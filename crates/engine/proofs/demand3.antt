@@ -1,0 +1,11 @@
+-- The law of demand 3, and that no venue reached from open gets 16.
+pub mod MarketLaws
+pub mod Invariant
+pub mod TallyLaws
+pub mod WorkingKeeps
+pub mod PassKeeps
+pub mod EventKeeps
+pub mod Demand3Law
+pub mod SoundLaws
+pub mod ReachedLaws
+pub mod ExampleLaws

@@ -1,0 +1,26 @@
+-- The twelve sums, the one day and the slides of document 01, by computation. Assumes nothing.
+use mathlib.Core.Path.{refl}
+use Rattle.numbers.specs.Tests
+use Rattle.numbers.specs.SevenBit
+use Rattle.prices.specs.Prices
+use Rattle.prices.specs.Restriction
+use Rattle.book.specs.rules.Orders
+use Rattle.book.specs.rules.Matching
+use Rattle.book.specs.rules.Sound as order-conditions
+use Rattle.engine.specs.rules.Market
+use Rattle.engine.specs.rules.Working
+use Rattle.engine.specs.rules.Pass
+use Rattle.engine.specs.rules.Venue
+use Rattle.engine.specs.rules.Sound
+use Rattle.engine.specs.rules.Refusals
+use Rattle.engine.specs.rules.Run
+use Rattle.engine.specs.claims.Examples.{TwelveSums, Played}
+
+pub twelve-sums : TwelveSums
+unfolding Prices.permitted Restriction.triggers SevenBit.byteCount SevenBit.bytesOf SevenBit.groups Tests.pick
+twelve-sums = tt
+
+pub played : Played
+unfolding Tests.pick Tests.every Prices.legal Prices.isBid Prices.permitted Restriction.triggers Restriction.phaseAfterTape Restriction.phaseAfterDayEnd Restriction.restrictionOn Orders.find Orders.ifSame Orders.restingShares Orders.without Orders.insert Matching.reaches Matching.better Matching.betterOf Matching.bestFrom Matching.best Matching.counterparty Matching.execution Matching.afterTrade Matching.meeting Matching.matchingWith Matching.matchingUpTo Matching.matching order-conditions.idsRise order-conditions.stampsDiffer order-conditions.soundOrder Market.restricted Market.permittedNow Working.workingPrice Working.orderOf Working.remainder Working.afterRemainder Working.work Pass.displayedClear Pass.moveDown Pass.slideOnce Pass.slideDown Pass.moveOf Pass.afterMove Pass.passOne Pass.passOver Venue.opened Venue.effectOfEntry Venue.effectOfCancel Venue.thePass Venue.restrictionReport Venue.effectOfDayEnd Venue.effectOf Sound.sound Refusals.refuseUnless Refusals.codesInRange Refusals.rests Refusals.refusalOfKind Refusals.refusal Run.stepUnless Run.step Run.run
+played =
+    record { theDay = refl; clearStays = refl; hiddenMoves = refl; slidingMatches = refl; newStamp = refl; notClear = refl; onceOnly = refl }

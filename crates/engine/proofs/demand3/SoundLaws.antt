@@ -1,0 +1,298 @@
+-- The conditions of a venue record as facts, and that no event breaks those of the book and the market. Assumes nothing.
+use Prim.Native.Nat.{ℕ, _+_, _*_, _≤_, _<_, min}
+use native.Mathlib.Omega.{arith}
+use mathlib.Core.Path.{_≡_, refl}
+use mathlib.Core.Bool.{Bool, true}
+use mathlib.Core.Option.{Option, none, some}
+use mathlib.Core.List.{List, [], _∷_, map, List·Memᴰ}
+use lib.Dec.{T, leb→le, le→leb, eqb→eq}
+use lib.ListN.{length, length-map}
+use Rattle.numbers.specs.Tests.{pick, All}
+use Rattle.numbers.proofs.TestLaws.{by-test, Each, conj-T, T-conj, every-T, T-every, neqb, tests, all-map}
+use Rattle.prices.specs.Prices.{legal, isBid}
+use Rattle.prices.proofs.RestrictionLaws.{tape-phase, day-end-phase}
+use Rattle.prices.proofs.PriceLaws.{no-bid, max-legal, permitted-legal, max-bid-legal}
+use Rattle.book.specs.declared.Order.{Order}
+use Rattle.book.specs.rules.Orders.{find, without}
+use Rattle.book.specs.rules.Matching.{Matched, meeting, matching, afterTrade}
+use Rattle.book.specs.rules.Sound.{soundOrder}
+use Rattle.book.proofs.definitions.OrderLaws.{idOf, stampOf, Other, Differ, Distinct, taken-all, all-taken, differ-taken, taken-length, mem-taken, insert-taken, without-all, without-other, without-differ, without-length, Found, find-found}
+use Rattle.book.proofs.definitions.RisingLaws.{Rises, idsRise-rises, rises-idsRise, rises-all, rises-distinct, rises-without, rises-insert, rises-afterTrade}
+use Rattle.book.proofs.refinement.SoundBookLaws.{stampsDiffer-differ, differ-stampsDiffer}
+use Rattle.book.proofs.definitions.MeetingLaws.{meeting-known}
+use Rattle.book.proofs.definitions.MatchingLaws.{afterTrade-all, afterTrade-differ, afterTrade-length, matching-keeps, unread}
+use Rattle.engine.specs.declared.Market.{Market}
+use Rattle.engine.specs.declared.Entry.{Entry}
+use Rattle.engine.specs.declared.Event.{Event}
+use Rattle.engine.specs.declared.Event.the-variants.{Entry as entry, Cancel as cancel, Bid as bid, Tape as tape, DayEnd as dayEnd}
+use Rattle.engine.specs.declared.Remainder.{Remainder}
+use Rattle.engine.specs.declared.Remainder.the-variants.{Filled, Cancelled, Rests}
+use Rattle.engine.specs.declared.Move.{Move}
+use Rattle.engine.specs.declared.Move.the-variants.{Stay, Cancel, Reprice}
+use Rattle.engine.specs.rules.Market.{marketAfter, restricted, permittedNow}
+use Rattle.engine.specs.rules.Working.{workingPrice, orderOf, remainder, afterRemainder, work}
+use Rattle.engine.specs.rules.Pass.{moveDown, slideOnce, slideDown, moveOf, atNewPrice, Effect, afterMove, passOne, passOver}
+use Rattle.engine.specs.rules.Venue.{Venue, thePass, effectOfEntry, effectOfCancel, effectOfDayEnd, effectOf, lastIdAfter}
+use Rattle.engine.specs.rules.Sound.{mostOrders, mostEvents, venueConditions, sound}
+use Rattle.engine.specs.rules.Refusals.{entryCodes, codesInRange}
+use Rattle.book.proofs.refinement.SoundBookLaws.{stampsDiffer-differ, differ-stampsDiffer}
+use Rattle.book.proofs.definitions.OrderConditionLaws.{FieldsSound, MayWork, MayRest, mayWork-reduced, mayRest-later, order-mayRest, mayRest-order}
+use Rattle.engine.proofs.refinement.RefusalLaws.{Allowed}
+
+-- the book
+
+pub record SoundBook (n s : ℕ) (os : List Order) : Type 0 where
+  pub few : length os ≤ mostOrders
+  pub rises : Rises 0 os
+  pub orders : All (MayRest n s) os
+  pub stamps : Differ stampOf os
+
+-- an order works, and the book has room for it
+pub record SoundWork (n s : ℕ) (w : Order) (os : List Order) : Type 0 where
+  pub book : SoundBook n s os
+  pub room : length os < mostOrders
+  pub works : MayWork n s w
+  pub newStamp : All (λ (x : Order). x.stamp ≡ w.stamp → ⊥) os
+  pub newId : All (Other (w .id)) os
+  pub positive : 0 < w.id
+
+module _ {n s : ℕ} {os : List Order} (b : SoundBook n s os) where
+  pub book-distinct : Distinct os
+  book-distinct = rises-distinct 0 os (b .rises)
+
+  pub book-order : {o : Order} → List·Memᴰ o os → MayRest n s o
+  book-order m = taken-all (MayRest n s) (mem-taken m book-distinct) (b .orders) .0
+
+  book-later : (m r : ℕ) → n ≤ m → s ≤ r → SoundBook m r os
+  book-later m r l k = record { few = b .few; rises = b .rises; orders = all-map (mayRest-later n s m r l k) os (b .orders); stamps = b .stamps }
+
+  book-without : (i : ℕ) → SoundBook n s (without i os)
+  book-without i =
+      record {
+        few = omega (arith, without-length i os, b .few);
+        rises = rises-without 0 i os (b .rises);
+        orders = without-all (MayRest n s) i os (b .orders);
+        stamps = without-differ stampOf i os (b .stamps);
+      }
+
+  book-afterTrade : {o : Order} (q : ℕ) → List·Memᴰ o os → SoundBook n s (afterTrade o q os)
+  book-afterTrade {o} q m =
+      let d : Distinct os = book-distinct in
+      record {
+        few = omega (arith, afterTrade-length q m d, b .few);
+        rises = rises-afterTrade 0 o q os m (b .rises);
+        orders = afterTrade-all q m d (MayRest n s) (λ z k l h. record { works = mayWork-reduced n s k z (h .works); least = omega arith; day = h .day }) (b .orders);
+        stamps = afterTrade-differ q m d stampOf refl (b .stamps);
+      }
+
+-- a working order
+
+-- what is known where this becomes of what is left of w
+abbrev pub RemainderOf : Order → Remainder → Type 0
+RemainderOf w Filled = w.shares ≡ 0
+RemainderOf w (Cancelled cause) = (0 < w.shares) × (cause ≤ 3)
+RemainderOf w Rests = (0 < w.shares) × (w.life ≡ 1 → ⊥)
+
+pub remainder-known : (w : Order) → RemainderOf w (remainder w)
+unfolding remainder
+remainder-known w =
+    by-test
+    (RemainderOf w)
+    _
+    (λ t. eqb→eq (w .shares) 0 t)
+    (λ t. by-test (RemainderOf w) _ (λ r. (omega tests, omega arith)) (λ r. by-test (RemainderOf w) _ (λ x. (omega tests, omega arith)) (λ x. (omega tests, neqb (w .life) 1 r))))
+
+module _ {n s : ℕ} {w : Order} {os : List Order} where
+  pub meeting-sound : {o : Order} → List·Memᴰ o os → SoundWork n s w os → SoundWork n s ((meeting w o os) .rest) ((meeting w o os) .orders)
+  meeting-sound {o} m g =
+      let q : ℕ = min (w .shares) (o .shares) in
+      let d : Distinct os = book-distinct (g .book) in
+      rw (meeting-known w o os) record {
+        book = book-afterTrade (g .book) q m;
+        room = omega (arith, afterTrade-length q m d, g .room);
+        works = mayWork-reduced n s q w (g .works);
+        newStamp = afterTrade-all q m d (λ (x : Order). x.stamp ≡ w.stamp → ⊥) (λ z k l h. h) (g .newStamp);
+        newId = afterTrade-all q m d (Other (w .id)) (λ z k l h. h) (g .newId);
+        positive = g .positive;
+      }
+
+  afterRemainder-sound : (x : Remainder) → RemainderOf w x → SoundWork n s w os → SoundBook n s ((afterRemainder x w os) .orders)
+  unfolding afterRemainder
+  afterRemainder-sound Filled h g = g .book
+  afterRemainder-sound (Cancelled cause) h g = g .book
+  afterRemainder-sound Rests h g =
+      let t = insert-taken w os in
+      record {
+        few = omega (arith, g .room, taken-length t);
+        rises = rises-insert 0 w os (g .positive) (g .newId) (g .book .rises);
+        orders = all-taken (MayRest n s) t (record { works = g .works; least = h .0; day = omega (arith, h .1, g .works .fields .life) }) (g .book .orders);
+        stamps = differ-taken stampOf t (g .newStamp) (g .book .stamps);
+      }
+
+pub work-sound : {n s : ℕ} (w : Order) (os : List Order) → SoundWork n s w os → SoundBook n s ((work w os) .orders)
+unfolding work
+work-sound {n} {s} w os g =
+    let m : Matched = matching w os in
+    afterRemainder-sound (remainder (m .rest)) (remainder-known (m .rest)) (matching-keeps unread (λ x l a. SoundWork n s x l) (λ x o l a r h. meeting-sound (r .0) h) w os tt g)
+
+-- where the pass sends an order
+
+-- a new price is legal
+abbrev pub MoveSound : Move → Type 0
+MoveSound Stay = Unit {0}
+MoveSound Cancel = Unit {0}
+MoveSound (Reprice p used) = T (legal p)
+
+-- the larger of a legal price and a bid
+permittedNow-legal : (m : Market) → T (isBid (m .bid)) → T (legal (permittedNow m))
+unfolding permittedNow
+permittedNow-legal m t = permitted-legal (m .bid) t
+
+moveDown-sound : (t : ℕ) (used : Bool) (o : Order) → T (legal t) → MoveSound (moveDown t used o)
+unfolding moveDown
+moveDown-sound t used o h = by-test MoveSound _ (λ x. h) (λ x. tt)
+
+slideDown-sound : (m : Market) → T (isBid (m .bid)) → (o : Order) → FieldsSound o → MoveSound (slideDown m o)
+unfolding slideDown slideOnce
+slideDown-sound m t o h =
+    by-test
+    MoveSound
+    _
+    (λ x. moveDown-sound _ (o .used) o (max-legal (o .limit) (permittedNow m) (h .limit) (permittedNow-legal m t)))
+    (λ x. by-test MoveSound _ (λ y. by-test MoveSound _ (λ z. moveDown-sound _ true o (max-bid-legal (o .limit) (o .«entry_bid») (h .limit) (h .entryBid))) (λ z. tt)) (λ y. tt))
+
+pub moveOf-sound : (m : Market) → T (isBid (m .bid)) → (o : Order) → FieldsSound o → MoveSound (pick (restricted m (o .mark)) (moveOf m o) Stay)
+unfolding moveOf
+moveOf-sound m t o h =
+    by-test
+    MoveSound
+    _
+    (λ r. by-test MoveSound _ (λ x. by-test MoveSound _ (λ y. tt) (λ y. permittedNow-legal m t)) (λ x. by-test MoveSound _ (λ y. slideDown-sound m t o h) (λ y. tt)))
+    (λ r. tt)
+
+-- the pass
+
+-- the book after an effect, and how many stamps it took at most
+abbrev pub SoundEffect : ℕ → ℕ → ℕ → Effect → Type 0
+SoundEffect n s k x = SoundBook n (x .stamp) (x .orders) × (x.stamp ≤ s + k)
+
+-- an order of the book at a new price, with the next stamp
+pub atNewPrice-sound : {n s : ℕ} {o : Order} {os : List Order} (p : ℕ) (used : Bool) → T (legal p) → List·Memᴰ o os → SoundBook n s os → SoundWork n (s + 1) (atNewPrice p (s + 1) used o) (without (o .id) os)
+atNewPrice-sound {n} {s} {o} {os} p used h m b =
+    let t = mem-taken m (book-distinct b) in
+    let w = book-order b m .works in
+    let r : SoundBook n s (without (o .id) os) = book-without b (o .id) in
+    record {
+      book = book-later r n (s + 1) (omega arith) (omega arith);
+      room = omega (arith, taken-length t, b .few);
+      works = record { fields = w .fields; id = w .id; first = omega arith; last = omega arith; price = h; most = w .most };
+      newStamp = all-map (λ x k e. omega (arith, k .works .last)) (without (o .id) os) (r .orders);
+      newId = without-other (o .id) os;
+      positive = taken-all (λ (x : Order). 0 < x.id) t (rises-all 0 os (b .rises)) .0;
+    }
+
+afterMove-sound : {n s : ℕ} {o : Order} {os : List Order} (x : Move) → MoveSound x → List·Memᴰ o os → SoundBook n s os → SoundEffect n s 1 (afterMove x o os s)
+unfolding afterMove
+afterMove-sound Stay h m b = (b, omega arith)
+afterMove-sound {o} Cancel h m b = (book-without b (o .id), omega arith)
+afterMove-sound (Reprice p used) h m b = (work-sound _ _ (atNewPrice-sound p used h m b), omega arith)
+
+module _ (m : Market) (t : T (isBid (m .bid))) (n : ℕ) where
+  pub passOne-sound : (i : ℕ) (x : Option Order) (os : List Order) (s : ℕ) → Found i os x → SoundBook n s os → SoundEffect n s 1 (passOne m x os s)
+  unfolding passOne
+  passOne-sound i none os s f b = (b, omega arith)
+  passOne-sound i (some o) os s f b = afterMove-sound _ (moveOf-sound m t o (book-order b (f .0) .works .fields)) (f .0) b
+
+  passOver-sound : (is : List ℕ) (os : List Order) (s : ℕ) → SoundBook n s os → SoundEffect n s (length is) (passOver m is os s)
+  unfolding passOver
+  passOver-sound [] os s b = (b, omega arith)
+  passOver-sound (i ∷ is) os s b =
+      let x = passOne-sound i (find i os) os s (find-found i os) b in
+      let y = passOver-sound is _ _ (x .0) in
+      (y .0, omega (arith, x .1, y .1))
+
+-- the venue
+
+pub record SoundMarket (m : Market) : Type 0 where
+  pub phase : m.phase ≤ 2
+  pub close : T (legal (m .close))
+  pub bid : T (isBid (m .bid))
+
+pub record SoundVenue (v : Venue) : Type 0 where
+  pub book : SoundBook (v .lastId) (v .lastStamp) (v .orders)
+  pub market : SoundMarket (v .market)
+  pub events : v.acceptedEvents ≤ mostEvents
+  pub stamps : v.lastStamp ≤ 256 * v.acceptedEvents
+
+pub sound-venue : (v : Venue) → T (sound v) → SoundVenue v
+unfolding sound
+sound-venue v t = go (conj-T (venueConditions v) t)
+  where
+    go : Each (venueConditions v) → SoundVenue v
+    go (few, (rises, (orders, (differ, (phase, (close, (best, (events, (stamps, end))))))))) =
+        record {
+          book =
+              record {
+                few = leb→le _ _ few;
+                rises = idsRise-rises 0 (v .orders) rises;
+                orders = all-map (order-mayRest (v .lastId) (v .lastStamp)) (v .orders) (every-T (soundOrder (v .lastId) (v .lastStamp)) (v .orders) orders);
+                stamps = stampsDiffer-differ (v .orders) differ;
+              };
+          market = record { phase = leb→le _ _ phase; close = close; bid = best };
+          events = leb→le _ _ events;
+          stamps = leb→le _ _ stamps;
+        }
+
+pub venue-sound : (v : Venue) → SoundVenue v → T (sound v)
+unfolding sound
+venue-sound v g =
+    T-conj (venueConditions v) (le→leb _ _ (g .book .few), (rises-idsRise 0 (v .orders) (g .book .rises), (T-every (soundOrder (v .lastId) (v .lastStamp)) (v .orders) (all-map (mayRest-order (v .lastId) (v .lastStamp)) (v .orders) (g .book .orders)), (differ-stampsDiffer (v .orders) (g .book .stamps), (le→leb _ _ (g .market .phase), (g .market .close, (g .market .bid, (le→leb _ _ (g .events), (le→leb _ _ (g .stamps), tt)))))))))
+
+-- events
+
+pub workingPrice-legal : (m : Market) (e : Entry) → T (legal (e .price)) → T (isBid (m .bid)) → T (legal (workingPrice m e))
+unfolding workingPrice
+workingPrice-legal m e h t =
+    by-test (λ (p : ℕ). T (legal p)) _ (λ r. max-legal (e .price) (permittedNow m) h (permittedNow-legal m t)) (λ r. h)
+
+pub orderOf-sound : (v : Venue) (e : Entry) → Allowed v (entry e) → SoundVenue v → SoundWork (e .id) (v .lastStamp + 1) (orderOf (v .market) (v .lastStamp + 1) e) (v .orders)
+unfolding orderOf codesInRange
+orderOf-sound v e f g =
+    let c = conj-T (entryCodes e) (f .codes) in
+    record {
+      book = book-later (g .book) (e .id) (v .lastStamp + 1) (omega (arith, f .newId)) (omega arith);
+      room = f .room;
+      works =
+          record {
+            fields = record { mark = leb→le _ _ (c .0); limit = f .price; show = leb→le _ _ (c .1 .0); life = leb→le _ _ (c .1 .1 .0); slide = c .1 .1 .1 .0; entryBid = g .market .bid };
+            id = omega arith;
+            first = omega arith;
+            last = omega arith;
+            price = workingPrice-legal (v .market) e (f .price) (g .market .bid);
+            most = f .most;
+          };
+      newStamp = all-map (λ x k z. omega (arith, k .works .last)) (v .orders) (g .book .orders);
+      newId = all-map (λ x k z. omega (arith, k .works .id, f .newId)) (v .orders) (g .book .orders);
+      positive = omega (arith, f .newId);
+    }
+
+pub marketAfter-sound : (v : Venue) (e : Event) → Allowed v e → SoundMarket (v .market) → SoundMarket (marketAfter e (v .market))
+marketAfter-sound v (entry e) f g = g
+marketAfter-sound v (cancel i) f g = g
+marketAfter-sound v (bid b) f g = record { phase = g .phase; close = g .close; bid = f }
+marketAfter-sound v (tape p) f g = record { phase = tape-phase (v .market .close) (v .market .phase) p (g .phase); close = g .close; bid = g .bid }
+marketAfter-sound v (dayEnd c) f g = record { phase = day-end-phase (v .market .phase); close = f; bid = no-bid }
+
+thePass-sound : (m : Market) (v : Venue) → T (isBid (m .bid)) → SoundVenue v → SoundEffect (v .lastId) (v .lastStamp) mostOrders (thePass m v)
+unfolding thePass
+thePass-sound m v t g =
+    let r = passOver-sound m t (v .lastId) (map idOf (v .orders)) (v .orders) (v .lastStamp) (g .book) in
+    (r .0, omega (arith, r .1, g .book .few, length-map (v .orders) idOf))
+
+pub effectOf-sound : (v : Venue) (e : Event) → Allowed v e → SoundVenue v → SoundEffect (lastIdAfter v e) (v .lastStamp) mostOrders (effectOf (marketAfter e (v .market)) v e)
+unfolding effectOf effectOfEntry effectOfCancel effectOfDayEnd
+effectOf-sound v (entry e) f g = (work-sound _ (v .orders) (orderOf-sound v e f g), omega arith)
+effectOf-sound v (cancel i) f g = (book-without (g .book) i, omega arith)
+effectOf-sound v (bid b) f g = thePass-sound _ v f g
+effectOf-sound v (tape p) f g = thePass-sound _ v (g .market .bid) g
+effectOf-sound v (dayEnd c) f g = (record { few = omega arith; rises = tt; orders = tt; stamps = tt }, omega arith)

@@ -1,0 +1,73 @@
+-- What an accepted entry is made of. Assumes nothing.
+use Prim.Native.Nat.{ℕ, _+_, _^_, _≤_, _<_}
+use native.Mathlib.Omega.{arith}
+use mathlib.Core.Path.{_≡_, sym, ap, _∙_, subst}
+use mathlib.Core.List.{List, [], _∷_}
+use lib.Dec.{T}
+use lib.ListN.{length}
+use Rattle.numbers.specs.SevenBit.{Put}
+use Rattle.numbers.proofs.TestLaws.{all-map}
+use Rattle.prices.specs.Prices.{isBid}
+use Rattle.book.specs.declared.Order.{Order}
+use Rattle.book.specs.rules.Words.{resting}
+use Rattle.engine.specs.declared.Entry.{Entry}
+use Rattle.engine.specs.declared.Event.the-variants.{Entry as entry}
+use Rattle.engine.specs.rules.Reports.{Report, accepted}
+use Rattle.engine.specs.rules.Records.{reportBytes, reportsBytes}
+use Rattle.engine.specs.rules.Working.{orderOf, work}
+use Rattle.engine.specs.rules.Venue.{effectOfEntry, effectOf, venueAfter}
+use Rattle.engine.specs.steps.Memory.{Ordered, Becomes, Room, Does, withOrders, finished, effectIn, MayAccept, Accepts}
+use Rattle.engine.specs.rules.Layout.{venueOf}
+use Rattle.engine.specs.steps.Steps.{MayEnter}
+use Rattle.engine.proofs.demand3.SoundLaws.{SoundVenue, sound-venue}
+use Rattle.engine.proofs.refinement.MemoryLaws.{becomes-then, does-becomes}
+use Rattle.engine.proofs.refinement.StepLaws.{room-as, room-first, room-one, room-then, put-one, does-report, does-then}
+
+accept-sound : {w : List ℕ} → MayAccept w → SoundVenue (venueOf w)
+accept-sound {w} a = sound-venue (venueOf w) (a .sound)
+
+pub accept-bid : {w : List ℕ} → MayAccept w → T (isBid (venueOf w .market .bid))
+accept-bid a = accept-sound a .market .bid
+
+-- 256 more stamps are 32-bit numbers
+pub accept-stamps : {w : List ℕ} → MayAccept w → venueOf w .lastStamp + 256 < 2 ^ 32
+accept-stamps a = omega (arith, accept-sound a .stamps, a .events)
+
+module _ (w : List ℕ) (e : Entry) (o : Order) (q : o ≡ orderOf (venueOf w .market) (venueOf w .lastStamp + 1) e) where
+  -- the reports of an entry
+  pub entry-reports : effectIn w (entry e) .reports ≡ accepted (o .id) (o .stamp) (o .price) ∷ work o (resting w) .reports
+  unfolding effectIn effectOf effectOfEntry orderOf venueOf
+  entry-reports = rw q
+
+  pub entry-room : (b : List ℕ) → Room b 0 (effectIn w (entry e) .reports) → 0 + length (reportBytes (accepted (o .id) (o .stamp) (o .price))) ≤ length b
+  entry-room b r = room-one b 0 _ (room-first b 0 (accepted (o .id) (o .stamp) (o .price) ∷ []) (work o (resting w) .reports) (room-as b 0 entry-reports r))
+
+  -- it may enter
+  pub entry-enters : MayAccept w → length (resting w) < 256 → venueOf w .lastId < e .id → MayEnter o w
+  unfolding venueOf orderOf
+  entry-enters a few new =
+      record {
+        ordered = a .ordered;
+        apart = all-map (λ x h z. omega (arith, h .works .id, ap (λ (y : Order). y .id) q)) (resting w) (accept-sound a .book .orders);
+        positive = omega (arith, ap (λ (y : Order). y .id) q);
+        few = few;
+      }
+
+  pub work-room : {b b₁ : List ℕ} {at : ℕ} → Room b 0 (effectIn w (entry e) .reports) → Put (reportBytes (accepted (o .id) (o .stamp) (o .price))) 0 b at b₁ → Room b₁ at (work o (resting w) .reports)
+  work-room {b} r p = room-then (accepted (o .id) (o .stamp) (o .price) ∷ []) _ (room-as b 0 entry-reports r) (put-one _ p)
+
+  entry-after : finished (o .id) (o .stamp) (withOrders (work o (resting w) .orders) (venueOf w)) ≡ venueAfter (venueOf w) (entry e) (effectIn w (entry e))
+  unfolding effectIn effectOf effectOfEntry orderOf venueOf
+  entry-after = rw q
+
+  -- and is accepted
+  pub entry-done : {w₁ w₂ b b₁ b₂ : List ℕ} {at end : ℕ} → Ordered w → Room b 0 (effectIn w (entry e) .reports) → Put (reportBytes (accepted (o .id) (o .stamp) (o .price))) 0 b at b₁ → Does w w₁ b₁ b₂ at (work o (resting w) .orders) (work o (resting w) .reports) end → Becomes w₁ w₂ (finished (o .id) (o .stamp) (venueOf w₁)) → Accepts w w₂ b b₂ (entry e) end
+  entry-done {w₁} {w₂} {b} {b₁} {b₂} {at} {end} k r p d f =
+      let x : Does w w₁ b b₂ 0 (work o (resting w) .orders) (accepted (o .id) (o .stamp) (o .price) ∷ work o (resting w) .reports) end = does-then (room-as b 0 entry-reports r) (does-report _ k p) d in
+      let u = becomes-then (does-becomes d) f in
+      record {
+        ordered = f .ordered;
+        venue = f .venue ∙ ap (finished (o .id) (o .stamp)) (does-becomes d .venue) ∙ entry-after;
+        same = u .same;
+        wrote = subst (λ (l : List Report). Put (reportsBytes l) 0 b end b₂) (sym entry-reports) (x .wrote);
+      }

@@ -1,0 +1,132 @@
+-- What writing header words and taking orders out does to the venue of the words. Assumes nothing.
+use Prim.Native.Nat.{ℕ, _+_, _<_}
+use native.Mathlib.Omega.{arith}
+use mathlib.Core.Path.{_≡_, sym, ap, _∙_, subst}
+use mathlib.Core.List.{List}
+use lib.Dec.{T, eqb, eqb→eq}
+use lib.ListN.{length, getD, length-set}
+use lib.Seq.{getD-set-same, getD-set-other}
+use Rattle.numbers.specs.Tests.{pick}
+use Rattle.numbers.proofs.TestLaws.{by-test, neqb}
+use Rattle.book.specs.declared.Order.{Order}
+use Rattle.book.specs.rules.Sound.{idsRise}
+use Rattle.book.specs.rules.Words.{resting}
+use Rattle.book.specs.steps.BookSteps.{Holds, HeaderSet}
+use Rattle.engine.specs.declared.Market.{Market}
+use Rattle.engine.specs.rules.Venue.{Venue}
+use Rattle.engine.specs.rules.Reports.{Report}
+use Rattle.engine.specs.steps.Memory.{Ordered, Becomes, Does, inMarket, withOrders, finished}
+use Rattle.engine.specs.rules.Layout.{venueOf}
+
+-- a venue by its parts
+venue-as : (w : List ℕ) (v : Venue) → getD w 1 0 ≡ v.market.close → getD w 2 0 ≡ v.market.phase → getD w 3 0 ≡ v.market.bid → resting w ≡ v.orders → getD w 4 0 ≡ v.lastId → getD w 5 0 ≡ v.lastStamp → getD w 6 0 ≡ v.acceptedEvents → venueOf w ≡ v
+unfolding venueOf
+venue-as w v a b c d e f g = λ i.
+    record {
+      market = record { close = a i; phase = b i; bid = c i };
+      orders = d i;
+      lastId = e i;
+      lastStamp = f i;
+      acceptedEvents = g i;
+    }
+
+-- one step after another
+
+pub becomes-then : {w w₁ w′ : List ℕ} {u v : Venue} → Becomes w w₁ u → Becomes w₁ w′ v → Becomes w w′ v
+becomes-then a b =
+    record {
+      ordered = b .ordered;
+      venue = b .venue;
+      same =
+          record {
+            size = b .same .size ∙ a .same .size;
+            spare = λ j l h. b .same .spare j l h ∙ a .same .spare j l h;
+            behind = λ j h. b .same .behind j h ∙ a .same .behind j h;
+          };
+    }
+
+pub becomes-as : {w w′ : List ℕ} {u v : Venue} → Becomes w w′ u → u ≡ v → Becomes w w′ v
+becomes-as a e = record { ordered = a .ordered; venue = a .venue ∙ e; same = a .same }
+
+-- orders under the same header
+
+pub holds-becomes : {w w′ : List ℕ} {os : List Order} → T (idsRise 0 os) → Holds w w′ os → Becomes w w′ (withOrders os (venueOf w))
+unfolding venueOf
+holds-becomes {w} {w′} {os} t h =
+    record {
+      ordered = record { book = h .book; rises = rw (h .rests) t };
+      venue = venue-as w′ (withOrders os (venueOf w)) (k 1 (omega arith) (omega arith)) (k 2 (omega arith) (omega arith)) (k 3 (omega arith) (omega arith)) (h .rests) (k 4 (omega arith) (omega arith)) (k 5 (omega arith) (omega arith)) (k 6 (omega arith) (omega arith));
+      same = record { size = h .size; spare = λ j l s. h .header j (omega arith) s; behind = h .behind };
+    }
+  where
+    k : (j : ℕ) → 0 < j → j < 16 → getD w′ j 0 ≡ getD w j 0
+    k = h .header
+
+-- a step of the engine, as what the words become
+pub does-becomes : {w w′ b b′ : List ℕ} {at e : ℕ} {os : List Order} {rs : List Report} → Does w w′ b b′ at os rs e → Becomes w w′ (withOrders os (venueOf w))
+does-becomes {w} {w′} {os = os} d =
+    holds-becomes
+    (subst (λ (l : List Order). T (idsRise 0 l)) (d .orders) (d .ordered .rises))
+    (record { book = d .ordered .book; rests = d .orders; size = d .same .size; header = d .same .header; behind = d .same .behind })
+
+-- a header word
+
+module _ {w w′ : List ℕ} {k x : ℕ} (h : HeaderSet w w′ k x) where
+  word-at : Ordered w → k < 7 → getD w′ k 0 ≡ x
+  word-at o l = ap (λ (v : List ℕ). getD v k 0) (h .is) ∙ getD-set-same w k x 0 (omega (arith, o .book .long))
+
+  word-other : (j : ℕ) → (j ≡ k → ⊥) → getD w′ j 0 ≡ getD w j 0
+  word-other j n = ap (λ (v : List ℕ). getD v j 0) (h .is) ∙ getD-set-other w k j x 0 n
+
+-- the venue with header word k set to x
+abbrev withWord : ℕ → ℕ → Venue → Venue
+withWord k x v =
+    let at : ℕ → ℕ → ℕ = λ j y. pick (eqb j k) x y in
+    record {
+      market = record { close = at 1 (v.market.close); phase = at 2 (v.market.phase); bid = at 3 (v.market.bid) };
+      orders = v.orders;
+      lastId = at 4 (v .lastId);
+      lastStamp = at 5 (v .lastStamp);
+      acceptedEvents = at 6 (v .acceptedEvents);
+    }
+
+word-set : {w w′ : List ℕ} {k x : ℕ} → k < 7 → Ordered w → HeaderSet w w′ k x → Becomes w w′ (withWord k x (venueOf w))
+unfolding venueOf
+word-set {w} {w′} {k} {x} l o h =
+    record {
+      ordered = record { book = h .book; rises = rw (h .rests) (o .rises) };
+      venue = venue-as w′ (withWord k x (venueOf w)) (at 1) (at 2) (at 3) (h .rests) (at 4) (at 5) (at 6);
+      same =
+          record {
+            size = ap length (h .is) ∙ length-set w k x;
+            spare = λ j a b. word-other h j (λ e. omega arith);
+            behind = λ j a. word-other h j (λ e. omega arith);
+          };
+    }
+  where
+    at : (j : ℕ) → getD w′ j 0 ≡ pick (eqb j k) x (getD w j 0)
+    at j =
+        by-test (λ (y : ℕ). getD w′ j 0 ≡ y) (eqb j k) (λ t. ap (λ (i : ℕ). getD w′ i 0) (eqb→eq j k t) ∙ word-at h o l) (λ t. word-other h j (neqb j k t))
+
+-- the header words of an event
+
+pub market-set : {w w₁ w₂ w′ : List ℕ} (m : Market) → Ordered w → HeaderSet w w₁ 1 (m .close) → HeaderSet w₁ w₂ 2 (m .phase) → HeaderSet w₂ w′ 3 (m .bid) → Becomes w w′ (inMarket m (venueOf w))
+unfolding pick
+market-set m o f g h =
+    let a = word-set (omega arith) o f in
+    let b = word-set (omega arith) (a .ordered) g in
+    let c = word-set (omega arith) (b .ordered) h in
+    becomes-as (becomes-then a (becomes-then b c)) (rw (b .venue, a .venue))
+
+pub events-counted : {w w′ : List ℕ} {n : ℕ} → Ordered w → n ≡ getD w 6 0 → HeaderSet w w′ 6 (n + 1) → let v = venueOf w in Becomes w w′ (finished (v .lastId) (v .lastStamp) v)
+unfolding venueOf pick
+events-counted o e h = becomes-as (word-set (omega arith) o h) (rw e)
+
+pub event-finished : {w w₁ w₂ w′ : List ℕ} {id stamp n : ℕ} → Ordered w → n ≡ getD w 6 0 → HeaderSet w w₁ 4 id → HeaderSet w₁ w₂ 5 stamp → HeaderSet w₂ w′ 6 (n + 1) → Becomes w w′ (finished id stamp (venueOf w))
+unfolding pick
+event-finished {w} {w₁} {w₂} {n = n} o e f g h =
+    let a = word-set (omega arith) o f in
+    let b = word-set (omega arith) (a .ordered) g in
+    let k : n ≡ getD w₂ 6 0 = e ∙ sym (word-other f 6 (λ z. omega arith)) ∙ sym (word-other g 6 (λ z. omega arith)) in
+    let c = events-counted (b .ordered) k h in
+    becomes-as (becomes-then a (becomes-then b c)) (rw (b .venue, a .venue))

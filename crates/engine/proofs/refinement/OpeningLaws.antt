@@ -1,0 +1,103 @@
+-- What an opened venue is, and what the words of open mean. Assumes nothing.
+use Prim.Native.Nat.{ℕ}
+use native.Mathlib.Omega.{arith}
+use mathlib.Core.Path.{_≡_, refl, ap, _∙_}
+use mathlib.Core.Bool.{true, false, not}
+use mathlib.Core.List.{List, [], _∷_, _++_, append-nil}
+use lib.Dec.{T}
+use lib.ListN.{replicate, length-append, length-replicate}
+use Rattle.numbers.specs.Answers.{Outcome, gives, refuses}
+use Rattle.numbers.specs.Tests.{pick, every}
+use Rattle.numbers.proofs.TestLaws.{by-test, pick-yes, pick-no}
+use Rattle.prices.specs.Prices.{legal}
+use Rattle.book.specs.rules.Sound.{idsRise, stampsDiffer}
+use Rattle.book.specs.rules.Words.{venueWords, isBook}
+use Rattle.book.proofs.refinement.WordLaws.{resting-tabulate, laidOut-isBook}
+use Rattle.engine.specs.declared.Event.{Event}
+use Rattle.engine.specs.declared.Refusal.the-variants.{PriceNotLegal}
+use Rattle.engine.specs.declared.OpenAnswer.the-variants.{Fresh, NotOpened}
+use Rattle.engine.specs.rules.Venue.{Venue, opened, opening}
+use Rattle.engine.specs.rules.Sound.{sound}
+use Rattle.engine.specs.rules.Refusals.{refuseUnless, refusal}
+use Rattle.engine.specs.rules.Run.{stepUnless, step}
+use Rattle.engine.specs.rules.Layout.{venueOf}
+use Rattle.engine.specs.claims.Calls.{openedWords, Opens, stepIn}
+
+pub record Opened (close : ℕ) (v : Venue) : Type 0 where
+  pub legal : T (legal close)
+  pub fresh : v ≡ opened close
+
+pub opening-known : (close : ℕ) (v : Venue) → opening close ≡ gives v → Opened close v
+unfolding opening
+opening-known close v =
+    by-test (λ (o : Outcome Venue). o ≡ gives v → Opened close v) (legal close) (λ t e. record { legal = t; fresh = cc }) (λ t e. absurd (never e))
+  where
+    never : refuses 3 ≡ gives v → ⊥
+    never e = let z : _≡_ {A = ℕ} 0 1 = cc in omega arith
+
+pub opening-gives : (close : ℕ) → T (legal close) → opening close ≡ gives (opened close)
+unfolding opening
+opening-gives close t = pick-yes (legal close) _ _ t
+
+-- the words with a close, and 0 elsewhere
+
+abbrev pub freshWords : ℕ → List ℕ
+freshWords x = 0 ∷ x ∷ replicate 3342 0
+
+fresh-book : (x : ℕ) (behind : List ℕ) → T (isBook (freshWords x ++ behind))
+fresh-book x behind =
+    laidOut-isBook (freshWords x ++ behind) (record { long = omega (arith, length-append (freshWords x) behind, length-replicate {A = ℕ} 3342 0); few = omega arith; flags = λ i l. absurd (omega arith) })
+
+fresh-venue : (x : ℕ) (behind : List ℕ) → venueOf (freshWords x ++ behind) ≡ opened x
+unfolding venueOf opened
+fresh-venue x behind = rw (resting-tabulate (freshWords x ++ behind) 0 [] refl refl)
+
+fresh-none : (x : ℕ) → venueOf (freshWords x) ≡ opened x
+fresh-none x = rw append-nil at (fresh-venue x [])
+
+opened-yes : (close : ℕ) → T (legal close) → openedWords close ≡ freshWords close
+unfolding openedWords
+opened-yes close t = pick-yes (legal close) _ _ t
+
+opened-no : (close : ℕ) → T (not (legal close)) → openedWords close ≡ freshWords 0
+unfolding openedWords
+opened-no close t = pick-no (legal close) _ _ t
+
+-- with further words behind them, and without
+
+pub opened-book-with : (close : ℕ) (behind : List ℕ) → T (isBook (openedWords close ++ behind))
+unfolding openedWords
+opened-book-with close behind =
+    by-test (λ (w : List ℕ). T (isBook (w ++ behind))) (legal close) (λ t. fresh-book close behind) (λ t. fresh-book 0 behind)
+
+pub opened-venue-with : (close : ℕ) (behind : List ℕ) → T (legal close) → venueOf (openedWords close ++ behind) ≡ opened close
+opened-venue-with close behind t = ap (λ (w : List ℕ). venueOf (w ++ behind)) (opened-yes close t) ∙ fresh-venue close behind
+
+pub opened-book : (close : ℕ) → T (isBook (openedWords close))
+opened-book close = rw append-nil at (opened-book-with close [])
+
+pub opened-venue : (close : ℕ) → T (legal close) → venueOf (openedWords close) ≡ opened close
+opened-venue close t = rw append-nil at (opened-venue-with close [] t)
+
+-- the step of words that are a book
+pub step-in : (w : List ℕ) (e : Event) (n : ℕ) → T (isBook w) → stepIn w e n ≡ step (venueOf w) e n
+unfolding stepIn
+step-in w e n t = pick-yes (isBook w) _ _ t
+
+broken : (e : Event) (n : ℕ) → step (opened 0) e n .answer ≡ refuses 16
+unfolding step stepUnless refusal refuseUnless sound opened legal idsRise every stampsDiffer
+broken e n = refl
+
+-- the words that open leaves where it makes no venue are refused with 16
+pub not-opened : (close : ℕ) → T (not (legal close)) → (e : Event) (n : ℕ) → stepIn (openedWords close) e n .answer ≡ refuses 16
+not-opened close t e n = rw (step-in (openedWords close) e n (opened-book close), opened-no close t, fresh-none 0) (broken e n)
+
+-- what open answers and leaves
+
+pub opens-yes : (close : ℕ) → legal close ≡ true → Opens close Fresh (freshWords close)
+unfolding opening openedWords pick
+opens-yes close e = record { answers = rw e (ap gives (fresh-none close)); is = rw e }
+
+pub opens-no : (close : ℕ) → legal close ≡ false → Opens close (NotOpened PriceNotLegal) (replicate venueWords 0)
+unfolding opening openedWords pick
+opens-no close e = record { answers = rw e; is = rw e }

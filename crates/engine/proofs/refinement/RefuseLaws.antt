@@ -1,0 +1,80 @@
+-- The refusals over words: the conditions of refusal 16 in the order in which they are judged, and what follows where none is given.
+-- Assumes nothing.
+use Prim.Native.Nat.{ℕ, _<_}
+use native.Mathlib.Omega.{arith}
+use mathlib.Core.Path.{_≡_}
+use mathlib.Core.Bool.{Bool, true, false, _&&_}
+use mathlib.Core.Option.{Option, none, some}
+use mathlib.Core.List.{List}
+use lib.Dec.{T, leb, le→leb}
+use lib.ListN.{length, getD}
+use borrow.Author.Tests.{lt-leb}
+use Rattle.numbers.specs.Tests.{conj}
+use Rattle.numbers.proofs.TestLaws.{and-T, T-and, bool-ext, Each, conj-T, T-conj, every-T, T-every}
+use Rattle.book.specs.declared.Order.{Order}
+use Rattle.book.specs.rules.Sound.{soundOrder}
+use Rattle.book.specs.rules.Words.{venueWords, resting, isBook, soundBook}
+use Rattle.book.proofs.refinement.WordLaws.{resting-length, isBook-laidOut, isBook-book}
+use Rattle.book.proofs.refinement.SoundBookLaws.{soundBook-parts, parts-soundBook}
+use Rattle.engine.specs.rules.Sound.{mostOrders, headerConditions, venueConditions, sound}
+use Rattle.engine.specs.rules.Refusals.{refuseUnless, rests}
+use Rattle.engine.specs.steps.Memory.{Ordered}
+use Rattle.engine.specs.rules.Layout.{venueOf, soundWords}
+
+pub refuse-yes : (b : Bool) (n : ℕ) (later : Option ℕ) → b ≡ true → refuseUnless b n later ≡ later
+unfolding refuseUnless
+refuse-yes b n later e = rw e
+
+pub refuse-no : (b : Bool) (n : ℕ) (later : Option ℕ) → b ≡ false → refuseUnless b n later ≡ some n
+unfolding refuseUnless
+refuse-no b n later e = rw e
+
+-- the refusal of a cancel, by what was found
+pub found-allowed : {x : Option Order} {o : Order} → x ≡ some o → refuseUnless (rests x) 8 none ≡ none
+unfolding refuseUnless rests
+found-allowed e = rw e
+
+pub absent-refused : {x : Option Order} → x ≡ none → refuseUnless (rests x) 8 none ≡ some 8
+unfolding refuseUnless rests
+absent-refused e = rw e
+
+-- words that are sound
+
+module _ (w : List ℕ) where
+  abbrev BookTests : Bool
+  BookTests = soundBook (getD w 4 0) (getD w 5 0) w
+
+  words-each : T (soundWords w) → T (isBook w) × Each (venueConditions (venueOf w))
+  unfolding soundWords sound
+  words-each t = let a = and-T (isBook w) (sound (venueOf w)) t in (a .0, conj-T (venueConditions (venueOf w)) (a .1))
+
+  pub words-ordered : T (soundWords w) → Ordered w
+  unfolding venueOf
+  words-ordered t = let a = words-each t in record { book = isBook-book w (a .0); rises = a .1 .1 .0 }
+
+  pub words-sound : T (soundWords w) → T (sound (venueOf w))
+  unfolding soundWords
+  words-sound t = and-T (isBook w) (sound (venueOf w)) t .1
+
+  -- the header first, then the orders in one walk
+  pub header-first : soundWords w ≡ (conj (headerConditions (venueOf w)) && BookTests)
+  unfolding soundWords sound venueOf
+  header-first = bool-ext (soundWords w) (conj (headerConditions (venueOf w)) && BookTests) there back
+    where
+      few : T (isBook w) → T (leb (length (resting w)) mostOrders)
+      few t = le→leb (length (resting w)) mostOrders (omega (arith, resting-length w, isBook-laidOut w t .few))
+
+      there : T (soundWords w) → T (conj (headerConditions (venueOf w)) && BookTests)
+      there t =
+          let a = words-each t in
+          T-and (conj (headerConditions (venueOf w))) BookTests (T-conj (headerConditions (venueOf w)) (a .1 .1 .1 .1 .1)) (parts-soundBook (getD w 4 0) (getD w 5 0) w (record { layout = a .0; rising = a .1 .1 .0; orders = every-T (soundOrder (getD w 4 0) (getD w 5 0)) (resting w) (a .1 .1 .1 .0); stamps = a .1 .1 .1 .1 .0 }))
+
+      back : T (conj (headerConditions (venueOf w)) && BookTests) → T (soundWords w)
+      back t =
+          let h = and-T (conj (headerConditions (venueOf w))) BookTests t in
+          let p = soundBook-parts (getD w 4 0) (getD w 5 0) w (h .1) in
+          T-and (isBook w) (sound (venueOf w)) (p .layout) (T-conj (venueConditions (venueOf w)) (few (p .layout), (p .rising, (T-every (soundOrder (getD w 4 0) (getD w 5 0)) (resting w) (p .orders), (p .stamps, conj-T (headerConditions (venueOf w)) (h .0))))))
+
+  pub short-words : length w < venueWords → soundWords w ≡ false
+  unfolding soundWords isBook
+  short-words l = rw (lt-leb venueWords (length w) l)

@@ -1,0 +1,190 @@
+-- Laws of a working order's steps: one meeting, matching as a loop, the remainder, and all of it. Assumes nothing.
+use Prim.Native.Nat.{ℕ, _+_, _-_, _≤_, _<_, min}
+use native.Mathlib.Omega.{arith}
+use native.Mathlib.Decide.{decLe}
+use mathlib.Core.Path.{_≡_, refl, sym, ap, ap₂, _∙_, subst}
+use mathlib.Core.Option.{none, some}
+use mathlib.Core.List.{List, [], _∷_, _++_, List·Memᴰ}
+use lib.Dec.{eqb}
+use lib.ListN.{length, getD}
+use Rattle.numbers.specs.Tests.{All}
+use Rattle.numbers.specs.SevenBit.{Put}
+use Rattle.numbers.proofs.TestLaws.{pick-yes, pick-no, eq→T, ne→T}
+use Rattle.book.specs.declared.Order.{Order}
+use Rattle.book.specs.rules.Orders.{reduced, insert}
+use Rattle.book.specs.rules.Matching.{counterparty, execution, afterTrade, meeting, Matched, matching}
+use Rattle.book.specs.rules.Words.{emptyOrder, resting}
+use Rattle.book.specs.steps.BookSteps.{Holds}
+use Rattle.book.proofs.definitions.OrderLaws.{Other, Distinct}
+use Rattle.book.proofs.definitions.RisingLaws.{rises-insert, rises-afterTrade}
+use Rattle.book.proofs.definitions.CounterpartyLaws.{Reached, counterparty-reached}
+use Rattle.book.proofs.definitions.MatchingLaws.{afterTrade-all, afterTrade-length, afterTrade-shorter, matching-none, matching-some}
+use Rattle.engine.specs.declared.Remainder.{Remainder}
+use Rattle.engine.specs.rules.Reports.{executed}
+use Rattle.engine.specs.rules.Records.{reportBytes}
+use Rattle.engine.specs.rules.Working.{Worked, remainder, afterRemainder, work}
+use Rattle.engine.specs.steps.Memory.{Ordered, Room, Does}
+use Rattle.engine.specs.steps.Steps.{MayEnter, Meets, executionReports, Matches, restedOrCancelled}
+use Rattle.engine.proofs.refinement.StepLaws.{put-as, put-one, room-as, room-first, room-one, room-then, ordered-rises, ordered-distinct, holds-ordered, holds-header, does-holds, does-as, does-then, at-member, Underway, underway-start, underway-as, underway-room, underway-then, underway-end}
+
+-- an execution, by the side of the working order
+
+pub execution-buy : (o x : Order) (q : ℕ) → o .mark ≡ 0 → execution o x q ≡ record { buyer = o .id; seller = x .id; price = x .price; shares = q }
+unfolding execution
+execution-buy o x q e = pick-yes (eqb (o .mark) 0) _ _ (eq→T e)
+
+pub execution-sell : (o x : Order) (q : ℕ) → (o .mark ≡ 0 → ⊥) → execution o x q ≡ record { buyer = x .id; seller = o .id; price = x .price; shares = q }
+unfolding execution
+execution-sell o x q e = pick-no (eqb (o .mark) 0) _ _ (ne→T (o .mark) 0 e)
+
+-- one meeting, as the code has it: x is the order at i, and q the smaller number of shares
+
+module _ (w : List ℕ) (o x : Order) (i q : ℕ) (ordered : Ordered w) (h : i < length (resting w)) (ex : x ≡ getD (resting w) i emptyOrder) (eq : q ≡ min (o .shares) (x .shares)) where
+  abbrev y : Order
+  y = getD (resting w) i emptyOrder
+
+  abbrev p : ℕ
+  p = min (o .shares) ((getD (resting w) i emptyOrder) .shares)
+
+  same : q ≡ p
+  same = eq ∙ ap (λ (a : Order). min (o .shares) (a .shares)) ex
+
+  same-report : reportBytes (executed (execution o x q)) ≡ reportBytes (executed (execution o y p))
+  same-report = ap₂ (λ (a : Order) (k : ℕ). reportBytes (executed (execution o a k))) ex same
+
+  pub meet-room : (b : List ℕ) (at : ℕ) → Room b at (executed (meeting o (getD (resting w) i emptyOrder) (resting w) .execution) ∷ []) → at + length (reportBytes (executed (execution o x q))) ≤ length b
+  unfolding meeting
+  meet-room b at r = omega (arith, room-one b at (executed (execution o y p)) r, ap length same-report)
+
+  pub meets : {w′ b b′ : List ℕ} {at e : ℕ} {rest : Order} → Put (reportBytes (executed (execution o x q))) at b e b′ → Holds w w′ (afterTrade (getD (resting w) i emptyOrder) q (resting w)) → rest ≡ reduced q o → Meets w w′ b b′ at (meeting o (getD (resting w) i emptyOrder) (resting w)) rest e
+  unfolding meeting
+  meets {w′} put holds rests =
+      let k : Holds w w′ (afterTrade y p (resting w)) = subst (λ (n : ℕ). Holds w w′ (afterTrade y n (resting w))) same holds in
+      record {
+        does = record {
+          ordered = holds-ordered k (rises-afterTrade 0 y p (resting w) (at-member (resting w) emptyOrder i h) (ordered-rises ordered));
+          same = holds-header k;
+          orders = k .rests;
+          wrote = put-one (executed (execution o y p)) (put-as same-report put);
+        };
+        rests = rests ∙ ap (λ (n : ℕ). reduced n o) same;
+      }
+
+-- a meeting lowers the orders and the shares taken together
+
+meeting-less : (o x : Order) (os : List Order) → Reached o os (some x) → Distinct os → length (meeting o x os .orders) + meeting o x os .rest .shares < length os + o .shares
+unfolding meeting
+meeting-less o x os r d = go (decLe (x .shares) (o .shares))
+  where
+    go : Dec (x .shares ≤ o .shares) → length (afterTrade x (min (o .shares) (x .shares)) os) + (o .shares - min (o .shares) (x .shares)) < length os + o .shares
+    go (yes h) = omega (arith, afterTrade-shorter (min (o .shares) (x .shares)) (r .0) d (omega arith))
+    go (no h) = omega (arith, r .2, afterTrade-length (min (o .shares) (x .shares)) (r .0) d)
+
+-- what is left of the working order may enter what is left of the book
+meets-enters : {w w′ b b′ : List ℕ} {n e : ℕ} {o x rest : Order} → MayEnter o w → List·Memᴰ x (resting w) → Meets w w′ b b′ n (meeting o x (resting w)) rest e → MayEnter rest w′
+unfolding meeting
+meets-enters {w} {w′} {o = o} {x = x} {rest = rest} k member m =
+    let q : ℕ = min (o .shares) (x .shares) in
+    let d = ordered-distinct (k .ordered) in
+    let same : rest .id ≡ o .id = ap (λ (a : Order). a .id) (m .rests) in
+    record {
+      ordered = m .does .ordered;
+      apart = subst (λ (i : ℕ). All (Other i) (resting w′)) (sym same) (subst (All (Other (o .id))) (sym (m .does .orders)) (afterTrade-all q member d (Other (o .id)) (λ z n l f. f) (k .apart)));
+      positive = omega (arith, same, k .positive);
+      few = omega (arith, ap length (m .does .orders), afterTrade-length q member d, k .few);
+    }
+
+-- matching as a loop: what is still to be done with the rest o and the words w gives what was to be done with o₀ and w₀
+pub record Matching (w₀ w b₀ b : List ℕ) (at n : ℕ) (o₀ o : Order) : Type 0 where
+  pub enters : MayEnter o w
+  pub orders : matching o₀ (resting w₀) .orders ≡ matching o (resting w) .orders
+  pub rests : matching o₀ (resting w₀) .rest ≡ matching o (resting w) .rest
+  pub way : Underway w₀ w b₀ b at n (executionReports (matching o₀ (resting w₀))) (executionReports (matching o (resting w)))
+
+pub matching-start : (w b : List ℕ) (at : ℕ) (o : Order) → MayEnter o w → Matching w w b b at at o o
+matching-start w b at o k = record { enters = k; orders = refl; rests = refl; way = underway-start w b at _ (k .ordered) }
+
+pub matching-end : {w₀ w b₀ b : List ℕ} {at n : ℕ} {o₀ o : Order} → Matching w₀ w b₀ b at n o₀ o → counterparty o (resting w) ≡ none → Matches w₀ w b₀ b at o₀ o n
+matching-end {w = w} {o = o} f e =
+    let z = matching-none o (resting w) e in
+    record {
+      does = does-as (sym (f .orders ∙ ap (λ (m : Matched). m .orders) z)) refl (underway-end (underway-as (ap executionReports z) (f .way)));
+      rests = sym (f .rests ∙ ap (λ (m : Matched). m .rest) z);
+      enters = f .enters;
+    }
+
+-- one meeting more, with x
+module _ {w₀ w b₀ b : List ℕ} {at n : ℕ} {o₀ o : Order} (x : Order) (f : Matching w₀ w b₀ b at n o₀ o) (found : counterparty o (resting w) ≡ some x) where
+  reached : Reached o (resting w) (some x)
+  reached = subst (Reached o (resting w)) found (counterparty-reached o (resting w))
+
+  abbrev later : List Order → Order → Matched
+  later os rest =
+      record {
+        executions = meeting o x (resting w) .execution ∷ matching rest os .executions;
+        rest = matching rest os .rest;
+        orders = matching rest os .orders;
+      }
+
+  first : matching o (resting w) ≡ later (meeting o x (resting w) .orders) (meeting o x (resting w) .rest)
+  first = matching-some o x (resting w) (ordered-distinct (f .enters .ordered)) found
+
+  pub matching-room : Room b₀ at (executionReports (matching o₀ (resting w₀))) → Room b n (executed (meeting o x (resting w) .execution) ∷ [])
+  matching-room room = underway-room _ (executionReports (matching (meeting o x (resting w) .rest) (meeting o x (resting w) .orders))) room (underway-as (ap executionReports first) (f .way))
+
+  module _ {w′ b′ : List ℕ} {n′ : ℕ} {rest : Order} (m : Meets w w′ b b′ n (meeting o x (resting w)) rest n′) where
+    next : matching o (resting w) ≡ later (resting w′) rest
+    next = first ∙ ap₂ later (sym (m .does .orders)) (sym (m .rests))
+
+    pub matching-then : Room b₀ at (executionReports (matching o₀ (resting w₀))) → Matching w₀ w′ b₀ b′ at n′ o₀ rest
+    matching-then room =
+        record {
+          enters = meets-enters (f .enters) (reached .0) m;
+          orders = f .orders ∙ ap (λ (z : Matched). z .orders) next;
+          rests = f .rests ∙ ap (λ (z : Matched). z .rest) next;
+          way = underway-then (executed (meeting o x (resting w) .execution) ∷ []) (executionReports (matching rest (resting w′))) room (underway-as (ap executionReports next) (f .way)) (m .does);
+        }
+
+    pub matching-less : length (resting w′) + rest .shares < length (resting w) + o .shares
+    matching-less =
+        omega (arith, meeting-less o x (resting w) reached (ordered-distinct (f .enters .ordered)), ap length (m .does .orders), ap (λ (a : Order). a .shares) (m .rests))
+
+-- what becomes of the remainder, by what it is
+pub rests-or-cancels : {w w′ b b′ : List ℕ} {at e : ℕ} (o : Order) (v : Remainder) → v ≡ remainder o → Does w w′ b b′ at (afterRemainder v o (resting w) .orders) (afterRemainder v o (resting w) .reports) e → Does w w′ b b′ at (restedOrCancelled o (resting w) .orders) (restedOrCancelled o (resting w) .reports) e
+rests-or-cancels {w} {w′} {b} {b′} {at} {e} o v q d =
+    subst (λ (z : Remainder). Does w w′ b b′ at (afterRemainder z o (resting w) .orders) (afterRemainder z o (resting w) .reports) e) q d
+
+pub remainder-room : (w b : List ℕ) (at : ℕ) (o : Order) (v : Remainder) → v ≡ remainder o → Room b at (restedOrCancelled o (resting w) .reports) → Room b at (afterRemainder v o (resting w) .reports)
+remainder-room w b at o v q h = room-as b at (ap (λ (z : Remainder). afterRemainder z o (resting w) .reports) (sym q)) h
+
+pub does-insert : {w w′ : List ℕ} (b : List ℕ) (at : ℕ) (o : Order) → MayEnter o w → Holds w w′ (insert o (resting w)) → Does w w′ b b at (insert o (resting w)) [] at
+does-insert {w} b at o k h = does-holds b at h (rises-insert 0 o (resting w) (k .positive) (k .apart) (ordered-rises (k .ordered)))
+
+-- a working order: matching, then the remainder
+
+pub match-room : (w b : List ℕ) (at : ℕ) (o : Order) → Room b at (work o (resting w) .reports) → Room b at (executionReports (matching o (resting w)))
+unfolding work
+match-room w b at o h =
+    let m : Matched = matching o (resting w) in
+    room-first b at (executionReports m) (restedOrCancelled (m .rest) (m .orders) .reports) h
+
+module _ {w w₁ b b₁ : List ℕ} {at n : ℕ} {o rest : Order} (f : Matches w w₁ b b₁ at o rest n) (room : Room b at (work o (resting w) .reports)) where
+  remainder-same : restedOrCancelled rest (resting w₁) ≡ restedOrCancelled (matching o (resting w) .rest) (matching o (resting w) .orders)
+  remainder-same = ap₂ restedOrCancelled (f .rests) (f .does .orders)
+
+  work-reports : work o (resting w) .reports ≡ executionReports (matching o (resting w)) ++ restedOrCancelled rest (resting w₁) .reports
+  unfolding work
+  work-reports = ap (λ (z : Worked). executionReports (matching o (resting w)) ++ z .reports) (sym remainder-same)
+
+  work-orders : work o (resting w) .orders ≡ restedOrCancelled rest (resting w₁) .orders
+  unfolding work
+  work-orders = ap (λ (z : Worked). z .orders) (sym remainder-same)
+
+  all-room : Room b at (executionReports (matching o (resting w)) ++ restedOrCancelled rest (resting w₁) .reports)
+  all-room = room-as b at work-reports room
+
+  pub rest-room : Room b₁ n (restedOrCancelled rest (resting w₁) .reports)
+  rest-room = room-then (executionReports (matching o (resting w))) (restedOrCancelled rest (resting w₁) .reports) all-room (f .does .wrote)
+
+  pub works : {w₂ b₂ : List ℕ} {e : ℕ} → Does w₁ w₂ b₁ b₂ n (restedOrCancelled rest (resting w₁) .orders) (restedOrCancelled rest (resting w₁) .reports) e → Does w w₂ b b₂ at (work o (resting w) .orders) (work o (resting w) .reports) e
+  works d = does-as (sym work-orders) (sym work-reports) (does-then all-room (f .does) d)

@@ -1,0 +1,7 @@
+-- What is claimed of the rules, and of the calls.
+pub mod Account
+pub mod Demand3
+pub mod Reached
+pub mod RoundTrips
+pub mod Examples
+pub mod Calls

@@ -1,0 +1,82 @@
+-- Document 01, "Twelve sums, and one day", as statements about the definitions. Assumes nothing.
+use Prim.Native.Nat.{ℕ}
+use mathlib.Core.Path.{_≡_}
+use mathlib.Core.Bool.{Bool, not}
+use mathlib.Core.List.{List, [], _∷_, map, foldl}
+use lib.Dec.{T, eqb}
+use Rattle.numbers.specs.Tests.{conj}
+use Rattle.numbers.specs.Answers.{Outcome, gives, refuses}
+use Rattle.numbers.specs.SevenBit.{byteCount}
+use Rattle.prices.specs.Prices.{permitted}
+use Rattle.prices.specs.Restriction.{triggers}
+use Rattle.engine.specs.declared.Event.{Event}
+use Rattle.engine.specs.declared.Event.the-variants.{Entry as entry, Cancel as cancel, Bid as bid, Tape as tape, DayEnd as dayEnd}
+use Rattle.engine.specs.rules.Reports.{Report, accepted, executed, cancelled, repriced, restrictionStarts, dayEnded}
+use Rattle.engine.specs.rules.Venue.{opened}
+use Rattle.engine.specs.rules.Refusals.{leastBuffer}
+use Rattle.engine.specs.rules.Run.{Call, Answered, run}
+
+-- "Shown together by one check of the definitions"
+abbrev pub twelveSums : List Bool
+twelveSums =
+    eqb (permitted 9_998) 9_999 ∷ eqb (permitted 9_999) 10_000 ∷ eqb (permitted 10_000) 10_100 ∷ eqb (permitted 99_999_900) 100_000_000
+    ∷ triggers 100_000 90_000 ∷ not (triggers 100_000 90_100) ∷ triggers 9_999 8_999 ∷ not (triggers 9_999 9_000)
+    ∷ eqb (byteCount 0) 1 ∷ eqb (byteCount 127) 1 ∷ eqb (byteCount 128) 2 ∷ eqb (byteCount 16_384) 3 ∷ []
+
+abbrev pub TwelveSums : Type 0
+TwelveSums = T (conj twelveSums)
+
+-- the events of the day that opens at 100,000
+abbrev pub entryOf : ℕ → ℕ → ℕ → ℕ → ℕ → ℕ → ℕ → Event
+entryOf id mark price shares show life slide =
+    entry (record { id = id; mark = mark; price = price; shares = shares; show = show; life = life; slide = slide })
+
+abbrev pub dayEvents : List Event
+dayEvents =
+    bid 91_000 ∷ tape 90_000 ∷ entryOf 1 2 90_500 500 1 0 0 ∷ entryOf 2 0 91_100 200 1 0 0 ∷ bid 90_700 ∷ bid 90_200 ∷ cancel 1 ∷ dayEnd 90_000 ∷ []
+
+-- the reports of each of them
+abbrev pub dayReports : List (List Report)
+dayReports =
+    []
+    ∷ (restrictionStarts ∷ [])
+    ∷ (accepted 1 1 91_100 ∷ [])
+    ∷ (accepted 2 2 91_100 ∷ executed (record { buyer = 2; seller = 1; price = 91_100; shares = 200 }) ∷ [])
+    ∷ (repriced 1 90_800 3 ∷ [])
+    ∷ (repriced 1 90_500 4 ∷ [])
+    ∷ (cancelled 1 300 1 ∷ [])
+    ∷ (dayEnded 2 ∷ [])
+    ∷ []
+
+abbrev pub callOf : Event → Call
+callOf e = record { event = e; buffer = leastBuffer }
+
+-- the answers to events from a venue opened at 100,000, and the last of them
+abbrev pub answersTo : List Event → List (Outcome (List Report))
+answersTo es = map (λ (x : Answered). x .answer) ((run (opened 100_000) (map callOf es)) .answered)
+
+abbrev pub lastAnswerTo : List Event → Outcome (List Report)
+lastAnswerTo es = foldl (λ (before : Outcome (List Report)) (x : Outcome (List Report)). x) (refuses 0) (answersTo es)
+
+-- events after two that turn the restriction on, with a bid of 91,000
+abbrev pub restrictedDay : List Event → List Event
+restrictedDay es = bid 91_000 ∷ tape 90_000 ∷ es
+
+abbrev pub tradeOf : ℕ → ℕ → ℕ → ℕ → Report
+tradeOf buyer seller price shares = executed (record { buyer = buyer; seller = seller; price = price; shares = shares })
+
+-- the one day, and for each of "Slides gone wrong" events and what the last of them reports
+pub record Played : Type 0 where
+  pub theDay : answersTo dayEvents ≡ map gives dayReports
+  -- "Re-pricing a clear displayed order when the bid rises over it. It stays and may trade there."
+  pub clearStays : lastAnswerTo (restrictedDay (entryOf 1 2 91_100 5 1 0 0 ∷ bid 91_200 ∷ entryOf 2 0 91_100 5 1 0 0 ∷ [])) ≡ gives (accepted 2 2 91_100 ∷ tradeOf 2 1 91_100 5 ∷ [])
+  -- "Leaving a hidden short at the bid."
+  pub hiddenMoves : lastAnswerTo (restrictedDay (entryOf 1 2 91_100 5 0 0 0 ∷ bid 91_100 ∷ [])) ≡ gives (repriced 1 91_200 2 ∷ [])
+  -- "Sliding down without matching, so the book locks."
+  pub slidingMatches : lastAnswerTo (restrictedDay (entryOf 1 2 90_000 5 1 0 0 ∷ entryOf 2 0 90_500 5 1 0 0 ∷ bid 90_200 ∷ [])) ≡ gives (repriced 1 90_300 3 ∷ tradeOf 2 1 90_500 5 ∷ [])
+  -- "Keeping the old stamp after a re-pricing.": the long sell, now the older one at 90,800, trades first
+  pub newStamp : lastAnswerTo (restrictedDay (entryOf 1 2 90_500 5 1 0 0 ∷ entryOf 2 1 90_800 5 1 0 0 ∷ bid 90_700 ∷ entryOf 3 0 90_800 5 1 0 0 ∷ [])) ≡ gives (accepted 3 4 90_800 ∷ tradeOf 3 2 90_800 5 ∷ [])
+  -- "Trusting a short shown at the bid before the trigger. It isn't clear."
+  pub notClear : lastAnswerTo (bid 91_000 ∷ entryOf 1 2 91_000 5 1 0 0 ∷ tape 90_000 ∷ []) ≡ gives (restrictionStarts ∷ repriced 1 91_100 2 ∷ [])
+  -- a hidden order with slide once goes down to its entry bid, is pushed up again, and then stays
+  pub onceOnly : lastAnswerTo (restrictedDay (entryOf 1 2 90_000 5 0 0 1 ∷ bid 90_500 ∷ bid 91_000 ∷ bid 90_500 ∷ [])) ≡ gives []

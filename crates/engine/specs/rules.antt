@@ -1,0 +1,12 @@
+-- The rules of document 01 on the venue, in its order, and last the venue that a run of words means.
+pub mod Market
+pub mod Working
+pub mod Pass
+pub mod Reports
+pub mod Venue
+pub mod Sound
+pub mod Refusals
+pub mod Run
+pub mod Copy
+pub mod Records
+pub mod Layout

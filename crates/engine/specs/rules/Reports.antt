@@ -1,0 +1,30 @@
+-- Reports: document 01, "Reports, in the order of happening". Assumes nothing.
+use Prim.Native.Nat.{ℕ}
+use Rattle.book.specs.rules.Matching.{Execution}
+
+pub data Report : Type 0 where
+  -- 1: id, stamp, working price
+  accepted : ℕ → ℕ → ℕ → Report
+  -- 2: buyer id, seller id, price, shares
+  executed : Execution → Report
+  -- 3: id, shares, cause
+  cancelled : ℕ → ℕ → ℕ → Report
+  -- 4: id, price, stamp
+  repriced : ℕ → ℕ → ℕ → Report
+  -- 5
+  restrictionStarts : Report
+  -- 6: new phase
+  dayEnded : ℕ → Report
+
+-- the causes of report 3: "1 asked for, others above"
+abbrev pub askedFor : ℕ
+askedFor = 1
+
+abbrev pub immediateOrCancel : ℕ
+immediateOrCancel = 2
+
+abbrev pub optOut : ℕ
+optOut = 3
+
+abbrev pub endOfDay : ℕ
+endOfDay = 4

@@ -1,0 +1,87 @@
+-- The venue, and what an accepted event does to it: document 01, "Orders", "Reports" and "Operations". Assumes nothing.
+use Prim.Native.Nat.{ℕ, _+_}
+use mathlib.Core.List.{List, [], _∷_, _++_, map}
+use lib.Dec.{eqb}
+use Rattle.numbers.specs.Tests.{pick}
+use Rattle.numbers.specs.Answers.{Outcome, gives, refuses}
+use Rattle.prices.specs.Prices.{legal}
+use Rattle.book.specs.declared.Order.{Order}
+use Rattle.book.specs.rules.Orders.{restingShares, without}
+use Rattle.engine.specs.declared.Market.{Market}
+use Rattle.engine.specs.declared.Entry.{Entry}
+use Rattle.engine.specs.declared.Event.{Event}
+use Rattle.engine.specs.declared.Event.the-variants.{Entry as entry, Cancel as cancel, Bid as bid, Tape as tape, DayEnd as dayEnd}
+use Rattle.engine.specs.rules.Market.{openingMarket, marketAfter}
+use Rattle.engine.specs.rules.Reports.{Report, accepted, cancelled, restrictionStarts, dayEnded, askedFor, endOfDay}
+use Rattle.engine.specs.rules.Working.{Worked, workingPrice, orderOf, work}
+use Rattle.engine.specs.rules.Pass.{Effect, passOver}
+
+-- the orders rest in rising id
+pub record Venue : Type 0 where
+  pub market : Market
+  pub orders : List Order
+  pub lastId : ℕ
+  pub lastStamp : ℕ
+  pub acceptedEvents : ℕ
+
+-- "Fresh: phase 0, bid 0, no orders, last id, last stamp and accepted events 0"
+unfoldable pub opened : ℕ → Venue
+opened close = record { market = openingMarket close; orders = []; lastId = 0; lastStamp = 0; acceptedEvents = 0 }
+
+-- "Open takes a close: 3 if it isn't legal; no venue is made"
+unfoldable pub opening : ℕ → Outcome Venue
+opening close = pick (legal close) (gives (opened close)) (refuses 3)
+
+-- What an accepted event reports, and the book after it; m is the market after the event
+
+-- "An entry takes a stamp": "A stamp is the next whole number"
+unfoldable pub effectOfEntry : Market → Venue → Entry → Effect
+effectOfEntry m v e =
+    let s : ℕ = v.lastStamp + 1 in
+    let w : Worked = work (orderOf m s e) (v .orders) in
+    record { reports = accepted (e .id) s (workingPrice m e) ∷ w.reports; orders = w.orders; stamp = s }
+
+unfoldable pub effectOfCancel : Venue → ℕ → Effect
+effectOfCancel v i =
+    record { reports = cancelled i (restingShares i (v .orders)) askedFor ∷ []; orders = without i (v .orders); stamp = v.lastStamp }
+
+-- "over the orders then resting, lowest id first"
+unfoldable pub thePass : Market → Venue → Effect
+thePass m v = passOver m (map (λ (o : Order). o .id) (v .orders)) (v .orders) (v .lastStamp)
+
+-- "5 restriction on, before the pass": where the tape price changed the phase
+unfoldable pub restrictionReport : Market → Market → List Report
+restrictionReport before after = pick (eqb (before .phase) (after .phase)) [] (restrictionStarts ∷ [])
+
+abbrev pub effectOfTape : Market → Venue → Effect
+effectOfTape m v =
+    let p : Effect = thePass m v in
+    record { reports = restrictionReport (v .market) m ++ p.reports; orders = p.orders; stamp = p.stamp }
+
+-- "cancels every order, lowest id first (cause 4)"; "6 day ended, last: new phase"
+abbrev pub cancelledAtEnd : Order → Report
+cancelledAtEnd o = cancelled (o .id) (o .shares) endOfDay
+
+unfoldable pub effectOfDayEnd : Market → Venue → Effect
+effectOfDayEnd m v =
+    record { reports = map cancelledAtEnd (v .orders) ++ dayEnded (m .phase) ∷ []; orders = []; stamp = v.lastStamp }
+
+unfoldable pub effectOf : Market → Venue → Event → Effect
+effectOf m v (entry e) = effectOfEntry m v e
+effectOf m v (cancel i) = effectOfCancel v i
+effectOf m v (bid b) = thePass m v
+effectOf m v (tape p) = effectOfTape m v
+effectOf m v (dayEnd c) = effectOfDayEnd m v
+
+-- the last accepted id after the event
+abbrev pub lastIdAfter : Venue → Event → ℕ
+lastIdAfter v (entry e) = e.id
+lastIdAfter v (cancel i) = v.lastId
+lastIdAfter v (bid b) = v.lastId
+lastIdAfter v (tape p) = v.lastId
+lastIdAfter v (dayEnd c) = v.lastId
+
+-- the venue after an accepted event with this effect
+abbrev pub venueAfter : Venue → Event → Effect → Venue
+venueAfter v e x =
+    record { market = marketAfter e (v .market); orders = x.orders; lastId = lastIdAfter v e; lastStamp = x.stamp; acceptedEvents = v.acceptedEvents + 1 }

@@ -1,0 +1,3 @@
+-- Laws by which the calls do what the rules say.
+pub mod HostLaws
+pub mod CopyCount

@@ -1,0 +1,158 @@
+-- The calls of a host program: the numbers of refusals, the words that venue_open leaves, the byte count that venue_apply answers.
+-- Assumes nothing.
+use Prim.Native.Nat.{ℕ, suc, _+_, _≤_, _<_}
+use native.Mathlib.Omega.{arith}
+use native.Mathlib.Numerals.{add-one}
+use mathlib.Core.Path.{_≡_, refl, sym, ap, _∙_, subst}
+use mathlib.Core.Option.{Option, none, some}
+use mathlib.Core.List.{List, [], _∷_, _++_}
+use lib.Dec.{T, leb}
+use lib.ListN.{length, getD, take, drop, set, length-replicate}
+use lib.Seq.{length-take-le, take-suc, drop-cons, append-snoc, set-at}
+use borrow.Author.Tests.{le-leb, lt-leb}
+use Rattle.numbers.specs.Tests.{pick, All}
+use Rattle.numbers.specs.Answers.{Outcome, gives, refuses, Read}
+use Rattle.numbers.specs.SevenBit.{IsByte}
+use Rattle.numbers.proofs.TestLaws.{by-test}
+use Rattle.prices.specs.Prices.{legal}
+use Rattle.book.specs.rules.Words.{venueWords, isBook}
+use Rattle.engine.specs.declared.Event.{Event}
+use Rattle.engine.specs.declared.Refusal.{Refusal}
+use Rattle.engine.specs.declared.Refusal.the-variants.{BufferTooShort, EventsSpent, PriceNotLegal, SharesOutOfRange, CodeOutOfRange, IdNotNew, BookFull, NotResting, VenueBroken}
+use Rattle.records.specs.declared.ReadRefusal.{ReadRefusal}
+use Rattle.records.specs.declared.ReadRefusal.the-variants.{MissingByte, BadNumber, UnknownKind, FieldTooLarge}
+use Rattle.engine.specs.declared.OpenAnswer.{OpenAnswer}
+use Rattle.engine.specs.declared.OpenAnswer.the-variants.{Fresh, NotOpened}
+use Rattle.engine.specs.rules.Venue.{Venue, opened, opening}
+use Rattle.engine.specs.rules.Run.{Step, stepUnless}
+use Rattle.engine.specs.rules.Records.{recordNumbers, recordAt}
+use Rattle.engine.specs.claims.RoundTrips.{Word}
+use Rattle.records.specs.RecordAnswers.{readRefusalNumber}
+use Rattle.engine.specs.steps.Memory.{refusalIn}
+use Rattle.engine.specs.rules.Layout.{venueOf}
+use Rattle.engine.specs.claims.Calls.{refusalNumber, openedWords, Opens, countOf, Applied}
+use Rattle.host.specs.rules.Host.{hostAnswer, openCount, hostOpening, wordsOpened, HostOpened, CountFits, EventApplied, HostApplied, Demand3OfHosts, NoHostGets16, EqualHostReports}
+use Rattle.engine.proofs.refinement.OpeningLaws.{opened-book-with, opened-venue-with}
+use Rattle.engine.proofs.refinement.ApplyLaws.{step-by-refusal, not-refused}
+use Rattle.engine.proofs.bytes.BoundLaws.{reports-room}
+use Rattle.engine.proofs.bytes.RecordLaws.{record-unique}
+use Rattle.engine.proofs.refinement.CallLaws.{event-lastId, demand3-from, no-16-from, both}
+
+-- the numbers of refusals are small
+
+pub refusal-small : (r : Refusal) → refusalNumber r ≤ 16
+refusal-small BufferTooShort = omega arith
+refusal-small EventsSpent = omega arith
+refusal-small PriceNotLegal = omega arith
+refusal-small SharesOutOfRange = omega arith
+refusal-small CodeOutOfRange = omega arith
+refusal-small IdNotNew = omega arith
+refusal-small BookFull = omega arith
+refusal-small NotResting = omega arith
+refusal-small VenueBroken = omega arith
+
+pub read-refusal-small : (r : ReadRefusal) → readRefusalNumber r ≤ 16
+read-refusal-small MissingByte = omega arith
+read-refusal-small BadNumber = omega arith
+read-refusal-small UnknownKind = omega arith
+read-refusal-small FieldTooLarge = omega arith
+
+-- copying words to the front: one word more
+
+pub front-more : (w₀ w from : List ℕ) (k : ℕ) → w ≡ take k from ++ drop k w₀ → k < length from → length from ≤ length w₀ → set w k (getD from k 0) ≡ take (k + 1) from ++ drop (k + 1) w₀
+front-more w₀ w from k e l h =
+    let v : ℕ = getD from k 0 in
+    let rest : List ℕ = drop (suc k) w₀ in
+    ap (λ (x : List ℕ). set x k v) (e ∙ ap (λ (x : List ℕ). take k from ++ x) (drop-cons w₀ k 0 (omega arith)))
+    ∙ set-at (take k from) (getD w₀ k 0) rest v k (length-take-le k from (omega arith))
+    ∙ sym (append-snoc (take k from) v rest)
+    ∙ ap (λ (x : List ℕ). x ++ rest) (sym (take-suc from k 0 l))
+    ∙ ap (λ (n : ℕ). take n from ++ drop n w₀) (sym (add-one k))
+
+-- venue_open
+
+opened-length : (close : ℕ) → length (openedWords close) ≡ venueWords
+unfolding openedWords
+opened-length close =
+    by-test (λ (w : List ℕ). length w ≡ venueWords) (legal close) (λ t. omega (arith, length-replicate {A = ℕ} 3342 0)) (λ t. length-replicate {A = ℕ} venueWords 0)
+
+pub opens-length : {close : ℕ} {answer : OpenAnswer} {words : List ℕ} → Opens close answer words → length words ≡ venueWords
+opens-length {close} o = ap length (o .is) ∙ opened-length close
+
+pub open-short : (w : List ℕ) (close : ℕ) {n : ℕ} → length w < venueWords → n ≡ hostAnswer (refuses 16) → HostOpened w close n w
+unfolding hostOpening pick
+open-short w close l k = let e = lt-leb venueWords (length w) l in record { answers = rw e k; leaves = rw e }
+
+module _ (w : List ℕ) {close : ℕ} {words : List ℕ} {answer : OpenAnswer} (l : venueWords ≤ length w) (o : Opens close answer words) where
+  pub open-refused : {r : Refusal} {n : ℕ} → answer ≡ NotOpened r → n ≡ hostAnswer (refuses (refusalNumber r)) → HostOpened w close n w
+  unfolding hostOpening pick
+  open-refused {r} {n} h k =
+      let e = le-leb venueWords (length w) l in
+      let f : refuses (refusalNumber r) ≡ opening close = rw h at (o .answers) in
+      record { answers = rw (e, ← f) k; leaves = rw (e, ← f) }
+
+  pub open-fresh : {w′ : List ℕ} → answer ≡ Fresh → w′ ≡ words ++ drop (length words) w → HostOpened w close 0 w′
+  unfolding hostOpening pick
+  open-fresh h k =
+      let e = le-leb venueWords (length w) l in
+      let f : gives (venueOf words) ≡ opening close = rw h at (o .answers) in
+      record { answers = rw (e, ← f); leaves = rw (e, ← f) (k ∙ rw (opens-length o, o .is)) }
+
+-- venue_apply
+
+-- the fields of an event that was read are 32-bit numbers
+
+bytes-all : (bytes : List ℕ) → ((i : ℕ) → IsByte (getD bytes i 0)) → All IsByte bytes
+bytes-all [] h = tt
+bytes-all (b ∷ bs) h = (h 0, bytes-all bs (λ i. h (suc i)))
+
+pub read-words : (bytes : List ℕ) {r : Read Event} → ((i : ℕ) → IsByte (getD bytes i 0)) → recordAt bytes 0 ≡ gives r → All Word (recordNumbers (r .value))
+read-words bytes {r} h e = record-unique bytes 0 r (bytes-all bytes h) e .words
+
+-- the reports of an event fit 16,384 bytes, so its byte count does
+pub applied-fits : {w b w′ b′ : List ℕ} {e : Event} {o : Outcome ℕ} → Word (getD w 4 0) → All Word (recordNumbers e) → Applied w e b o w′ b′ → CountFits o
+unfolding stepUnless venueOf
+applied-fits {w} {b} {w′} {b′} {e} {o} i h a =
+    subst CountFits (sym (a .answers ∙ ap (λ (s : Step). countOf (s .answer)) (step-by-refusal w e (length b)))) (go (refusalIn w e (length b)) refl)
+  where
+    go : (x : Option ℕ) → refusalIn w e (length b) ≡ x → CountFits (countOf ((stepUnless x (venueOf w) e) .answer))
+    go none x = reports-room (venueOf w) e (length b) (not-refused w e (length b) x) (event-lastId (venueOf w) e i h)
+    go (some n) x = tt
+
+-- by what was read
+
+pub apply-refused : (w bytes b : List ℕ) {n answer : ℕ} → recordAt bytes 0 ≡ refuses n → answer ≡ hostAnswer (refuses n) → HostApplied w bytes b answer w b
+apply-refused w bytes b e a = rw e (record { answers = a; words = refl; buffer = refl })
+
+pub apply-read : (bytes : List ℕ) {w b w′ b′ : List ℕ} {answer : ℕ} {r : Read Event} → recordAt bytes 0 ≡ gives r → EventApplied w (r .value) b answer w′ b′ → HostApplied w bytes b answer w′ b′
+apply-read bytes e a = rw e a
+
+-- chains of calls
+
+record FreshWords (w₀ : List ℕ) (close : ℕ) : Type 0 where
+  legal : T (legal close)
+  layout : T (isBook w₀)
+  venue : venueOf w₀ ≡ opened close
+
+opened-fresh : {w w₀ : List ℕ} {close : ℕ} → HostOpened w close 0 w₀ → FreshWords w₀ close
+unfolding hostOpening opening
+opened-fresh {w} {w₀} {close} h =
+    by-test Known (leb venueWords (length w)) (λ t. by-test (λ (o : Outcome Venue). Known (openCount o)) (legal close) (λ u a l. known u l) (λ u a l. absurd (omega arith))) (λ t a l. absurd (omega arith)) (h .answers) (h .leaves)
+  where
+    Known : Outcome ℕ → Type 0
+    Known o = 0 ≡ hostAnswer o → w₀ ≡ wordsOpened w close o → FreshWords w₀ close
+
+    known : T (legal close) → w₀ ≡ openedWords close ++ drop venueWords w → FreshWords w₀ close
+    known u l = record { legal = u; layout = rw l (opened-book-with close (drop venueWords w)); venue = rw l (opened-venue-with close (drop venueWords w) u) }
+
+pub demand3-of-hosts : Demand3OfHosts
+demand3-of-hosts w close w₀ h = let f = opened-fresh h in demand3-from close (f .legal) (f .layout) (f .venue)
+
+pub no-host-gets-16 : NoHostGets16
+no-host-gets-16 w close w₀ h = let f = opened-fresh h in no-16-from close (f .legal) (f .layout) (f .venue)
+
+pub equal-host-reports : EqualHostReports
+equal-host-reports close w v w₀ v₀ h k cs ds w′ v′ c d =
+    let f = opened-fresh h in
+    let g = opened-fresh k in
+    both (f .layout) (g .layout) (f .venue ∙ sym (g .venue)) c d

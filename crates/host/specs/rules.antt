@@ -1,0 +1,3 @@
+-- The calls for hosts, by the rules.
+pub mod Host
+pub mod Observe

@@ -1,0 +1,106 @@
+-- The calls of a host program: open, the event, the record check and the permitted price of document 01, each answered by one number.
+-- Assumes nothing.
+use Prim.Native.Nat.{ℕ, _*_, _≤_}
+use mathlib.Core.Path.{_≡_}
+use mathlib.Core.List.{List, _++_, map}
+use lib.Dec.{leb}
+use lib.ListN.{length, drop}
+use Rattle.numbers.specs.Tests.{pick, All}
+use Rattle.numbers.specs.Answers.{Outcome, gives, refuses, Read}
+use Rattle.book.specs.rules.Words.{venueWords}
+use Rattle.engine.specs.declared.Event.{Event}
+use Rattle.engine.specs.rules.Venue.{Venue, opening}
+use Rattle.engine.specs.rules.Refusals.{leastBuffer}
+use Rattle.engine.specs.rules.Records.{recordAt}
+use Rattle.engine.specs.claims.Calls.{openedWords, Applied, HostCall, Chain, LawfulCalls, LongEnough, SameForBoth}
+
+-- the number that a host call answers, refusal × 65,536 + byte count: a byte count has no refusal, and a refusal no byte count
+abbrev pub hostAnswer : Outcome ℕ → ℕ
+hostAnswer (gives count) = count
+hostAnswer (refuses n) = n * 65_536
+
+-- Open
+
+-- open reports nothing, so its byte count is 0
+abbrev pub openCount : Outcome Venue → Outcome ℕ
+openCount (gives v) = gives 0
+openCount (refuses n) = refuses n
+
+-- 16 where the run is shorter than a venue, then what open says: "3 if it isn't legal; no venue is made"
+unfoldable pub hostOpening : List ℕ → ℕ → Outcome ℕ
+hostOpening w close = pick (leb venueWords (length w)) (openCount (opening close)) (refuses 16)
+
+-- the words after the call: those that open gives, and those behind the venue as they were; a refusal leaves every word as it was
+abbrev pub wordsOpened : List ℕ → ℕ → Outcome ℕ → List ℕ
+wordsOpened w close (gives count) = openedWords close ++ drop venueWords w
+wordsOpened w close (refuses n) = w
+
+-- one call of venue_open: the words w lent to it, the close, the answer, and the words w′ after it
+pub record HostOpened (w : List ℕ) (close answer : ℕ) (w′ : List ℕ) : Type 0 where
+  pub answers : answer ≡ hostAnswer (hostOpening w close)
+  pub leaves : w′ ≡ wordsOpened w close (hostOpening w close)
+
+-- Apply
+
+-- the byte count is at most 16,384, so an answer below 65,536 is a byte count, and any other a refusal
+abbrev pub CountFits : Outcome ℕ → Type 0
+CountFits (gives count) = count ≤ leastBuffer
+CountFits (refuses n) = Unit {0}
+
+-- one call of apply with the event e, as `Applied` says it, whose answer is given as a number
+pub record EventApplied (w : List ℕ) (e : Event) (b : List ℕ) (answer : ℕ) (w′ b′ : List ℕ) : Type 0 where
+  pub outcome : Outcome ℕ
+  pub applied : Applied w e b outcome w′ b′
+  pub fits : CountFits outcome
+  pub answers : answer ≡ hostAnswer outcome
+
+-- a record that can't be read is refused, and every word and every byte is as it was
+pub record RecordRefused (n : ℕ) (w b : List ℕ) (answer : ℕ) (w′ b′ : List ℕ) : Type 0 where
+  pub answers : answer ≡ hostAnswer (refuses n)
+  pub words : w′ ≡ w
+  pub buffer : b′ ≡ b
+
+-- by what stands in the record: an event, or a refusal ("Read a record": 9 to 12)
+abbrev pub RecordApplied : Outcome (Read Event) → List ℕ → List ℕ → ℕ → List ℕ → List ℕ → Type 0
+RecordApplied (gives r) w b answer w′ b′ = EventApplied w (r .value) b answer w′ b′
+RecordApplied (refuses n) w b answer w′ b′ = RecordRefused n w b answer w′ b′
+
+-- one call of venue_apply: the words w, the bytes of the record and the report buffer b lent to it, the answer, and the words w′ and the
+-- buffer b′ after it; the record is read at offset 0, and bytes behind it don't matter
+abbrev pub HostApplied : List ℕ → List ℕ → List ℕ → ℕ → List ℕ → List ℕ → Type 0
+HostApplied w bytes b answer w′ b′ = RecordApplied (recordAt bytes 0) w b answer w′ b′
+
+-- The permitted price and the record check
+
+-- "these give 0 on refusal (3; 9 to 12), else the price, or the record's byte count; the check reads at offset 0"
+abbrev pub endOrZero : {A : Type 0} → Outcome (Read A) → ℕ
+endOrZero (gives r) = r.end
+endOrZero (refuses n) = 0
+
+abbrev pub valueOrZero : Outcome ℕ → ℕ
+valueOrZero (gives x) = x
+valueOrZero (refuses n) = 0
+
+-- What holds of every chain of calls holds of hosts, whose run may be longer than a venue: from the words that venue_open leaves with the
+-- answer 0. A call of venue_apply whose record reads as an event is a call of the chain (`EventApplied`), and any other changes nothing
+
+-- demand 3
+abbrev pub Demand3OfHosts : Type 0
+Demand3OfHosts =
+    (w : List ℕ) (close : ℕ) (w₀ : List ℕ) → HostOpened w close 0 w₀ →
+    (cs : List HostCall) (w′ : List ℕ) → Chain w₀ cs w′ → LawfulCalls close cs w′
+
+-- "No venue reached from open gets 16"
+abbrev pub NoHostGets16 : Type 0
+NoHostGets16 =
+    (w : List ℕ) (close : ℕ) (w₀ : List ℕ) → HostOpened w close 0 w₀ →
+    (cs : List HostCall) (w₁ : List ℕ) → Chain w₀ cs w₁ →
+    (e : Event) (b : List ℕ) (answer : Outcome ℕ) (w′ b′ : List ℕ) → Applied w₁ e b answer w′ b′ → answer ≡ refuses 16 → ⊥
+
+-- equal events, equal reports, in runs of any length
+abbrev pub EqualHostReports : Type 0
+EqualHostReports =
+    (close : ℕ) (w v w₀ v₀ : List ℕ) → HostOpened w close 0 w₀ → HostOpened v close 0 v₀ →
+    (cs ds : List HostCall) (w′ v′ : List ℕ) → Chain w₀ cs w′ → Chain v₀ ds v′ →
+    map (λ (c : HostCall). c .event) cs ≡ map (λ (c : HostCall). c .event) ds → All LongEnough cs → All LongEnough ds →
+    SameForBoth cs ds w′ v′
