@@ -3,37 +3,37 @@ use crate::Order;
 use crate::search;
 use crate::words;
 ghost use mathlib.Core.Path.{_≡_};
-ghost use Prim.Native.Nat.{_+_, _*_, _<_, _≤_};
+ghost use Prim.Native.Nat.{_+_, _<_, _≤_};
 ghost use lib.Dec.{T};
 ghost use lib.ListN.{length, getD, set};
 ghost use Rattle.book.specs.rules.Orders;
 ghost use Rattle.book.specs.rules.Sound.{idsRise};
-ghost use Rattle.book.specs.rules.Words.{emptyOrder, resting};
+ghost use Rattle.book.specs.rules.Words.{orderWidth, emptyOrder, resting};
 ghost use Rattle.book.specs.steps.BookSteps.{Book, Holds};
 ghost use Rattle.book.specs.steps.WordSteps.{ShiftedDown, ShiftedUp};
 ghost use Rattle.book.specs.steps.Positions.{removeAt, insertAt};
 
-// Moves n words, behind the first thirteen, down by thirteen. The words start at index 0, so that the compiler makes it one move.
+// Moves n words, behind those of one order, down by one place. The words start at index 0, so that the compiler makes it one move.
 fn shift_down(s: &mut [u32], n: usize)
-    requires { ⌜ n + 13 ≤ length (now s) ⌝ }
+    requires { ⌜ n + orderWidth ≤ length (now s) ⌝ }
     ensures { λ _. ⌜ ShiftedDown (now (s .entry)) (now (s .exit)) 0 n ⌝ }
 {
     let mut j = 0;
     while j < n {
-        s[j] = s[j + 13];
+        s[j] = s[j + words::WIDTH];
         j += 1;
     }
 }
 
-// Moves the first n words up by thirteen.
+// Moves the first n words up by one place.
 fn shift_up(s: &mut [u32], n: usize)
-    requires { ⌜ n + 13 ≤ length (now s) ⌝ }
+    requires { ⌜ n + orderWidth ≤ length (now s) ⌝ }
     ensures { λ _. ⌜ ShiftedUp (now (s .entry)) (now (s .exit)) 0 n ⌝ }
 {
     let mut j = n;
     while j > 0 {
         j -= 1;
-        s[j + 13] = s[j];
+        s[j + words::WIDTH] = s[j];
     }
 }
 

@@ -5,12 +5,8 @@ ghost use mathlib.Core.Path.{_≡_};
 ghost use Prim.Native.Nat.{_<_, _≤_};
 ghost use lib.ListN.{length};
 ghost use Rattle.book.specs.rules.Sound.{slideAllowed, soundOrder};
-ghost use Rattle.book.specs.rules.Words.{venueWords, word, orderAt, soundBook};
+ghost use Rattle.book.specs.rules.Words.{venueWords, word, orderAt, headerLaidOut, soundBook};
 ghost use Rattle.book.specs.steps.RecordWalk.{fromOne, codesSound, pricesSound, bitsAt, idBefore, bucketOf, stampSeen, lastIn, Linked, soundAt};
-
-pub const VENUE: usize = 3344;
-
-pub const PLACES: usize = 256;
 
 const BUCKETS: u32 = 512;
 
@@ -135,18 +131,28 @@ fn stamp_seen(w: &[u32], links: &[u16; 256], n: usize, last: u16, stamp: u32) ->
     false
 }
 
+// Whether words are long enough for a venue, have the number of its layout, and count at most 256 orders.
+fn header_laid_out(w: &[u32]) -> bool
+    ensures { λ r. ⌜ r ≡ headerLaidOut (now (w .entry)) ⌝ }
+{
+    if w.len() < words::VENUE {
+        return false;
+    }
+    if w[words::LAYOUT_WORD] == words::LAYOUT {
+        return words::wide(w[0]) <= words::PLACES;
+    }
+    false
+}
+
 // Whether the words are a book whose orders are sound. A stamp is compared only with those of its bucket: `heads` has the last place
 // of each bucket and `links` the one before each place in its bucket, counted from 1, 0 for none.
 pub fn is_sound(w: &[u32], last_id: u32, last_stamp: u32) -> bool
     ensures { λ r. ⌜ r ≡ soundBook «last_id» «last_stamp» (now (w .entry)) ⌝ }
 {
-    if w.len() < VENUE {
+    if !header_laid_out(w) {
         return false;
     }
     let n = words::wide(w[0]);
-    if n > PLACES {
-        return false;
-    }
     let mut heads = [0u16; 512];
     let mut links = [0u16; 256];
     let mut before = 0;

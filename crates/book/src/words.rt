@@ -1,17 +1,26 @@
 // The layout of a book in lent words: its header words, and its orders one at a time by value.
 use crate::Order;
 ghost use mathlib.Core.Path.{_≡_};
-ghost use Prim.Native.Nat.{_+_, _*_, _<_, _≤_};
+ghost use Prim.Native.Nat.{_+_, _<_, _≤_};
 ghost use mathlib.Core.List.{[]};
 ghost use lib.ListN.{length, getD};
-ghost use Rattle.book.specs.rules.Words.{venueWords, flagWord, emptyOrder, word, resting};
+ghost use Rattle.book.specs.rules.Words.{headerWords, orderWidth, venueWords, layoutWord, flagWord, emptyOrder, placeFrom, word, resting};
 ghost use Rattle.book.specs.steps.BookSteps.{Book, Holds, HeaderSet};
 ghost use Rattle.book.specs.steps.WordSteps.{Row, Copied, Stored};
 
-// The header words, and the words of an order.
+// The words of the header and of an order, the places for orders, and the words of a venue.
 const HEADER: usize = 16;
 
-const WIDTH: usize = 13;
+pub(crate) const WIDTH: usize = 13;
+
+pub const PLACES: usize = 256;
+
+pub const VENUE: usize = HEADER + PLACES * WIDTH;
+
+// The number of this layout, and the header word that has it.
+pub const LAYOUT: u32 = 1;
+
+pub const LAYOUT_WORD: usize = 15;
 
 // Where each field lies among the words of an order.
 pub(crate) const ID: usize = 0;
@@ -55,22 +64,22 @@ pub fn count(w: &[u32]) -> usize
 }
 
 pub fn header_word(w: &[u32], at: usize) -> u32
-    requires { ⌜ Book (now w) × (at < 16) ⌝ }
+    requires { ⌜ Book (now w) × (at < headerWords) ⌝ }
     ensures { λ r. ⌜ r ≡ getD (now (w .entry)) at 0 ⌝ }
 {
     w[at]
 }
 
 pub fn set_header_word(w: &mut [u32], k: usize, x: u32)
-    requires { ⌜ Book (now w) × (0 < k) × (k < 16) ⌝ }
+    requires { ⌜ Book (now w) × (0 < k) × (k < layoutWord) ⌝ }
     ensures { λ _. ⌜ HeaderSet (now (w .entry)) (now (w .exit)) k x ⌝ }
 {
     w[k] = x;
 }
 
-// Makes words that are enough for a venue a book without orders.
+// Takes every order out.
 pub fn clear(w: &mut [u32])
-    requires { ⌜ venueWords ≤ length (now w) ⌝ }
+    requires { ⌜ Book (now w) ⌝ }
     ensures { λ _. ⌜ Holds (now (w .entry)) (now (w .exit)) [] ⌝ }
 {
     w[0] = 0;
@@ -79,14 +88,14 @@ pub fn clear(w: &mut [u32])
 // The index of the first word of place i.
 pub(crate) fn first_word(i: usize) -> usize
     requires { ⌜ i ≤ 256 ⌝ }
-    ensures { λ r. ⌜ r ≡ 16 + i * 13 ⌝ }
+    ensures { λ r. ⌜ r ≡ placeFrom i ⌝ }
 {
     HEADER + i * WIDTH
 }
 
 // Word k of place i.
 pub(crate) fn word_at(w: &[u32], i: usize, k: usize) -> u32
-    requires { ⌜ (venueWords ≤ length (now w)) × (i < 256) × (k < 13) ⌝ }
+    requires { ⌜ (venueWords ≤ length (now w)) × (i < 256) × (k < orderWidth) ⌝ }
     ensures { λ r. ⌜ r ≡ word (now (w .entry)) i k ⌝ }
 {
     w[HEADER + i * WIDTH + k]
@@ -125,7 +134,7 @@ fn flag_word(b: bool) -> u32
 }
 
 // The words of an order.
-fn row_of(o: Order) -> [u32; 13]
+fn row_of(o: Order) -> [u32; WIDTH]
     ensures { λ r. ⌜ Row r o ⌝ }
 {
     let a = flag_word(o.adjusted);
@@ -149,12 +158,12 @@ fn row_of(o: Order) -> [u32; 13]
 }
 
 // Copies the words of an order to w from an index on.
-fn copy_row(w: &mut [u32], at: usize, row: &[u32; 13])
-    requires { ⌜ at + 13 ≤ length (now w) ⌝ }
-    ensures { λ _. ⌜ Copied (now (w .entry)) (now (w .exit)) at (now (row .entry)) 13 ⌝ }
+fn copy_row(w: &mut [u32], at: usize, row: &[u32; WIDTH])
+    requires { ⌜ at + orderWidth ≤ length (now w) ⌝ }
+    ensures { λ _. ⌜ Copied (now (w .entry)) (now (w .exit)) at (now (row .entry)) orderWidth ⌝ }
 {
     let mut k = 0;
-    while k < 13 {
+    while k < WIDTH {
         w[at + k] = row[k];
         k += 1;
     }

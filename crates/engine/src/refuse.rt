@@ -61,7 +61,7 @@ fn entry_refusal(w: &[u32], e: Entry) -> MayRefuse
     if e.id <= words::header_word(w, header::LAST_ID) {
         return MayRefuse::Refuse(Refusal::IdNotNew);
     }
-    if words::count(w) >= sound::PLACES {
+    if words::count(w) >= words::PLACES {
         return MayRefuse::Refuse(Refusal::BookFull);
     }
     MayRefuse::Allow
@@ -124,7 +124,7 @@ fn header_sound(w: &[u32]) -> bool
 pub(crate) fn venue_sound(w: &[u32]) -> bool
     ensures { λ r. ⌜ r ≡ soundWords (now (w .entry)) ⌝ }
 {
-    if w.len() < sound::VENUE {
+    if w.len() < words::VENUE {
         return false;
     }
     if !header_sound(w) {

@@ -1,5 +1,5 @@
 // Open, the event, the record check and the permitted price for host programs.
-use book::sound;
+use book::words;
 use engine::Answer;
 use engine::Event;
 use engine::OpenAnswer;
@@ -42,7 +42,7 @@ fn copy_words(to: &mut [u32], from: &[u32])
 pub extern "C" fn venue_open(words: &mut [u32], close: u32) -> u32
     ensures { λ r. ⌜ HostOpened (now (words .entry)) close r (now (words .exit)) ⌝ }
 {
-    if words.len() < sound::VENUE {
+    if words.len() < words::VENUE {
         return refusals::number_of(Refusal::VenueBroken) * REFUSAL_UNIT;
     }
     let opened = open::open(close);

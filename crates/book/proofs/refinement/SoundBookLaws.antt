@@ -1,22 +1,22 @@
 -- Laws of the conditions of refusal 16 on words: all of them together are those of each place. Assumes nothing.
-use Prim.Native.Nat.{ℕ, zero, suc, _≤_, _<_, zero-le, suc-le-suc}
+use Prim.Native.Nat.{ℕ, zero, suc, _<_, zero-le, suc-le-suc}
 use native.Mathlib.Nat.{le-of-suc-le-suc, not-suc-le-zero}
 use mathlib.Core.Path.{_≡_, refl, sym, subst}
 use mathlib.Core.Bool.{Bool, not, _&&_}
 use mathlib.Core.List.{List, [], _∷_}
 use lib.Dec.{T, ltb, eqb, leb→le, le→leb}
-use lib.ListN.{length, getD}
+use lib.ListN.{getD}
 use Rattle.numbers.specs.Tests.{every, All}
 use Rattle.numbers.proofs.TestLaws.{and-T, T-and, every-T, T-every, neqb, ne→T, all-map}
 use Rattle.book.specs.declared.Order.{Order}
 use Rattle.book.specs.rules.Sound.{idsRise, stampsDiffer, soundOrder}
-use Rattle.book.specs.rules.Words.{venueWords, tabulate, word, orderAt, resting, flagsAt, isBook, soundBook}
+use Rattle.book.specs.rules.Words.{tabulate, word, orderAt, resting, flagsAt, isBook, soundBook}
 use Rattle.book.specs.steps.BookSteps.{Book}
 use Rattle.book.specs.steps.RecordWalk.{stampAt, stampSeen, idBefore, soundAt}
 use Rattle.book.proofs.definitions.OrderLaws.{stampOf, Differ}
 use Rattle.book.proofs.definitions.RisingLaws.{Rises, idsRise-rises, rises-idsRise}
 use Rattle.book.proofs.refinement.TabulateLaws.{all-tabulate, tabulate-all}
-use Rattle.book.proofs.refinement.WordLaws.{LaidOut, isBook-laidOut, laidOut-isBook, isBook-book}
+use Rattle.book.proofs.refinement.WordLaws.{HeaderLaidOut, LaidOut, isBook-laidOut, laidOut-isBook, isBook-book}
 use Rattle.book.proofs.refinement.StampLaws.{unseen-T, T-unseen}
 
 -- rising ids, place by place
@@ -77,8 +77,7 @@ at-differ (suc n) f h =
 -- all conditions, place by place
 
 pub record SoundPlaces (lastId lastStamp : ℕ) (w : List ℕ) : Type 0 where
-  pub long : venueWords ≤ length w
-  pub few : getD w 0 0 ≤ 256
+  pub header : HeaderLaidOut w
   pub sound : (i : ℕ) → i < getD w 0 0 → T (soundAt lastId lastStamp w i)
   pub unseen : (i : ℕ) → i < getD w 0 0 → T (not (stampSeen w (stampAt w i) i))
 
@@ -113,8 +112,7 @@ module _ (lastId lastStamp : ℕ) (w : List ℕ) where
       let h : LaidOut w = isBook-laidOut w (p .layout) in
       let r = rises-at 0 n (orderAt w) (idsRise-rises 0 (resting w) (p .rising)) in
       record {
-        long = h.long;
-        few = h.few;
+        header = h.header;
         sound =
             λ i l. T-and (flagsAt w i) _ (h .flags i l) (T-and (ltb (idBefore w i) (word w i 0)) _ (le→leb _ _ (subst (λ (x : ℕ). x < word w i 0) (before-is w i) (r i l))) (all-tabulate (λ (o : Order). T (soundOrder lastId lastStamp o)) n (orderAt w) (p .orders) i l));
         unseen =
@@ -128,7 +126,7 @@ module _ (lastId lastStamp : ℕ) (w : List ℕ) where
       let a : (i : ℕ) → i < n → T (flagsAt w i) × T (ltb (idBefore w i) (word w i 0) && soundOrder lastId lastStamp (orderAt w i)) = λ i l. and-T (flagsAt w i) _ (p .sound i l) in
       let b : (i : ℕ) → i < n → T (ltb (idBefore w i) (word w i 0)) × T (soundOrder lastId lastStamp (orderAt w i)) = λ i l. and-T (ltb (idBefore w i) (word w i 0)) _ (a i l .1) in
       record {
-        layout = laidOut-isBook w (record { long = p.long; few = p.few; flags = λ i l. a i l .0 });
+        layout = laidOut-isBook w (record { header = p.header; flags = λ i l. a i l .0 });
         rising =
             rises-idsRise 0 (resting w) (at-rises 0 n (orderAt w) (λ i l. subst (λ (x : ℕ). x < word w i 0) (sym (before-is w i)) (leb→le _ _ (b i l .0))));
         orders = tabulate-all (λ (o : Order). T (soundOrder lastId lastStamp o)) n (orderAt w) (λ i l. b i l .1);

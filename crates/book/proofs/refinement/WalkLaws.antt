@@ -7,15 +7,15 @@ use mathlib.Core.Bool.{Bool, true, false, not}
 use mathlib.Core.List.{List}
 use lib.Dec.{T, T-not}
 use lib.ListN.{length, getD, set, length-set, replicate, length-replicate}
-use Rattle.book.specs.rules.Words.{venueWords, soundBook}
+use Rattle.book.specs.rules.Words.{headerLaidOut, soundBook}
 use Rattle.book.specs.steps.RecordWalk.{stampAt, stampSeen, bucketOf, soundAt}
 use Rattle.book.proofs.refinement.TabulateLaws.{by-order}
+use Rattle.book.proofs.refinement.WordLaws.{HeaderLaidOut, headerLaidOut-facts, facts-headerLaidOut}
 use Rattle.book.proofs.refinement.StampLaws.{Chains, chains-start, chains-more}
 use Rattle.book.proofs.refinement.SoundBookLaws.{soundBook-places, places-soundBook}
 
 pub record Walked (lastId lastStamp : ℕ) (w heads links : List ℕ) (i : ℕ) : Type 0 where
-  pub long : venueWords ≤ length w
-  pub few : getD w 0 0 ≤ 256
+  pub header : HeaderLaidOut w
   pub inside : i ≤ getD w 0 0
   pub headCount : length heads ≡ 512
   pub linkCount : length links ≡ 256
@@ -38,11 +38,10 @@ no true f = absurd (f tt)
 no false f = refl
 
 module _ (lastId lastStamp : ℕ) (w : List ℕ) where
-  pub walked-start : venueWords ≤ length w → getD w 0 0 ≤ 256 → Walked lastId lastStamp w (replicate 512 0) (replicate 256 0) 0
-  walked-start l f =
+  pub walked-start : headerLaidOut w ≡ true → Walked lastId lastStamp w (replicate 512 0) (replicate 256 0) 0
+  walked-start e =
       record {
-        long = l;
-        few = f;
+        header = headerLaidOut-facts w (yes-T e);
         inside = zero-le;
         headCount = length-replicate {A = ℕ} 512 0;
         linkCount = length-replicate {A = ℕ} 256 0;
@@ -54,12 +53,11 @@ module _ (lastId lastStamp : ℕ) (w : List ℕ) where
   pub walked-more : {heads links : List ℕ} {i : ℕ} (s b last : ℕ) → Walked lastId lastStamp w heads links i → i < getD w 0 0 → s ≡ stampAt w i → b ≡ bucketOf s → last ≡ getD heads b 0 → soundAt lastId lastStamp w i ≡ true → stampSeen w s i ≡ false → Walked lastId lastStamp w (set heads b (i + 1)) (set links i last) (i + 1)
   walked-more {heads} {links} {i} s b last k h es eb el t u =
       record {
-        long = k.long;
-        few = k.few;
+        header = k.header;
         inside = omega arith;
         headCount = length-set heads b (i + 1) ∙ k.headCount;
         linkCount = length-set links i last ∙ k.linkCount;
-        chains = chains-more w heads links i s b last (k .chains) es eb el (omega (arith, k .headCount)) (omega (arith, k .linkCount, k .few)) (k .headCount);
+        chains = chains-more w heads links i s b last (k .chains) es eb el (omega (arith, k .headCount)) (omega (arith, k .linkCount, k .header .few)) (k .headCount);
         sound = λ j l. by-order j i (k .sound j) (λ m. subst (λ (x : ℕ). T (soundAt lastId lastStamp w x)) {x = i} (omega arith) (yes-T t));
         unseen =
             λ j l. by-order j i (k .unseen j) (λ m. subst (λ (x : ℕ). T (not (stampSeen w (stampAt w x) x))) {x = i} (omega arith) (no-T (subst (λ (x : ℕ). stampSeen w x i ≡ false) es u)));
@@ -67,15 +65,12 @@ module _ (lastId lastStamp : ℕ) (w : List ℕ) where
 
   pub walked-all : {heads links : List ℕ} {i : ℕ} → Walked lastId lastStamp w heads links i → getD w 0 0 ≤ i → true ≡ soundBook lastId lastStamp w
   walked-all k h =
-      yes _ (places-soundBook lastId lastStamp w (record { long = k.long; few = k.few; sound = λ j l. k .sound j (omega arith); unseen = λ j l. k .unseen j (omega arith) }))
+      yes _ (places-soundBook lastId lastStamp w (record { header = k.header; sound = λ j l. k .sound j (omega arith); unseen = λ j l. k .unseen j (omega arith) }))
 
   -- what is no sound book
 
-  pub too-short : length w < venueWords → false ≡ soundBook lastId lastStamp w
-  too-short h = no _ (λ t. omega (arith, soundBook-places lastId lastStamp w t .long))
-
-  pub too-many : 256 < getD w 0 0 → false ≡ soundBook lastId lastStamp w
-  too-many h = no _ (λ t. omega (arith, soundBook-places lastId lastStamp w t .few))
+  pub not-laid-out : headerLaidOut w ≡ false → false ≡ soundBook lastId lastStamp w
+  not-laid-out e = no _ (λ t. T-not (headerLaidOut w) (no-T e) (facts-headerLaidOut w (soundBook-places lastId lastStamp w t .header)))
 
   pub unsound-place : (i : ℕ) → i < getD w 0 0 → soundAt lastId lastStamp w i ≡ false → false ≡ soundBook lastId lastStamp w
   unsound-place i h e = no _ (λ t. T-not (soundAt lastId lastStamp w i) (no-T e) (soundBook-places lastId lastStamp w t .sound i h))

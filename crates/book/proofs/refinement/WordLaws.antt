@@ -1,23 +1,23 @@
 -- Laws of a book's words: its orders by their words, and the layout test. Assumes nothing.
-use Prim.Native.Nat.{ℕ, zero, suc, _+_, _*_, _≤_, _<_, zero-le, suc-le-suc}
+use Prim.Native.Nat.{ℕ, zero, suc, _+_, _≤_, _<_, zero-le, suc-le-suc}
 use native.Mathlib.Nat.{add-zero, le-of-suc-le-suc, not-suc-le-zero}
 use native.Mathlib.Omega.{arith}
 use mathlib.Core.Path.{_≡_, refl, sym, ap, _∙_, subst}
 use mathlib.Core.Bool.{Bool, true, false}
 use mathlib.Core.List.{List, [], _∷_}
-use lib.Dec.{T, eqb, leb, leb→le, le→leb}
+use lib.Dec.{T, eqb, leb, leb→le, le→leb, eqb→eq}
 use lib.ListN.{length, getD}
 use Rattle.numbers.specs.Tests.{conj}
-use Rattle.numbers.proofs.TestLaws.{and-T, T-and}
+use Rattle.numbers.proofs.TestLaws.{and-T, T-and, eq→T}
 use Rattle.book.specs.declared.Order.{Order}
-use Rattle.book.specs.rules.Words.{venueWords, orderOf, flagWord, emptyOrder, tabulate, word, orderAt, resting, flagsAt, isBook}
+use Rattle.book.specs.rules.Words.{orderWidth, venueWords, layoutNumber, layoutWord, firstFlag, pastFlags, placeFrom, orderOf, flagWord, emptyOrder, tabulate, word, orderAt, resting, flagsAt, headerLaidOut, isBook}
 use Rattle.book.specs.steps.BookSteps.{Book}
 use Rattle.book.specs.steps.WordSteps.{Row}
 use Rattle.book.proofs.refinement.TabulateLaws.{by-order, length-tabulate, getD-tabulate, tabulate-ext}
 
 -- two orders whose words are the same are one
-pub order-ext : (f g : ℕ → ℕ) → ((k : ℕ) → k < 13 → f k ≡ g k) → orderOf (tabulate 13 f) ≡ orderOf (tabulate 13 g)
-order-ext f g h = ap orderOf (tabulate-ext 13 f g h)
+pub order-ext : (f g : ℕ → ℕ) → ((k : ℕ) → k < orderWidth → f k ≡ g k) → orderOf (tabulate orderWidth f) ≡ orderOf (tabulate orderWidth g)
+order-ext f g h = ap orderOf (tabulate-ext orderWidth f g h)
 
 pub resting-length : (w : List ℕ) → length (resting w) ≡ getD w 0 0
 unfolding resting
@@ -49,9 +49,9 @@ step-is : (p k : ℕ) → step p k ≡ p + k
 step-is p zero = sym (add-zero p)
 step-is p (suc k) = refl
 
-pub loaded : (w : List ℕ) (i : ℕ) → i < length (resting w) → orderOf (tabulate 13 (λ k. getD w (step (16 + i * 13) k) 0)) ≡ getD (resting w) i emptyOrder
+pub loaded : (w : List ℕ) (i : ℕ) → i < length (resting w) → orderOf (tabulate orderWidth (λ k. getD w (step (placeFrom i) k) 0)) ≡ getD (resting w) i emptyOrder
 loaded w i h =
-    rw (resting-at w i h) (order-ext (λ k. getD w (step (16 + i * 13) k) 0) (word w i) (λ k hk. ap (λ (q : ℕ). getD w q 0) (step-is (16 + i * 13) k)))
+    rw (resting-at w i h) (order-ext (λ k. getD w (step (placeFrom i) k) 0) (word w i) (λ k hk. ap (λ (q : ℕ). getD w q 0) (step-is (placeFrom i) k)))
 
 -- a flag as a word
 
@@ -64,7 +64,7 @@ flag-small true n e = omega arith
 flag-small false n e = omega arith
 
 -- what holds at 10, 11 and 12
-pub at-flags : (P : ℕ → Type 0) → P 10 → P 11 → P 12 → (k : ℕ) → 10 ≤ k → k < 13 → P k
+pub at-flags : (P : ℕ → Type 0) → P 10 → P 11 → P 12 → (k : ℕ) → firstFlag ≤ k → k < pastFlags → P k
 at-flags P a b c k l h =
     by-order k 11 (λ m. subst P {x = 10} (omega arith) a) (λ m. by-order k 12 (λ n. subst P {x = 11} (omega arith) b) (λ n. subst P {x = 12} (omega arith) c))
 
@@ -96,22 +96,26 @@ row-is o a u c p q r =
 
 -- the layout test
 
-flagsAt-T : (w : List ℕ) (i : ℕ) → T (flagsAt w i) → (k : ℕ) → 10 ≤ k → k < 13 → word w i k ≤ 1
+flagsAt-T : (w : List ℕ) (i : ℕ) → T (flagsAt w i) → (k : ℕ) → firstFlag ≤ k → k < pastFlags → word w i k ≤ 1
 unfolding flagsAt
 flagsAt-T w i t =
     let a = and-T (leb (word w i 10) 1) _ t in
     let b = and-T (leb (word w i 11) 1) (leb (word w i 12) 1) (a .1) in
     at-flags (λ (k : ℕ). word w i k ≤ 1) (leb→le _ _ (a .0)) (leb→le _ _ (b .0)) (leb→le _ _ (b .1))
 
-T-flagsAt : (w : List ℕ) (i : ℕ) → ((k : ℕ) → 10 ≤ k → k < 13 → word w i k ≤ 1) → T (flagsAt w i)
+T-flagsAt : (w : List ℕ) (i : ℕ) → ((k : ℕ) → firstFlag ≤ k → k < pastFlags → word w i k ≤ 1) → T (flagsAt w i)
 unfolding flagsAt
 T-flagsAt w i h =
     T-and (leb (word w i 10) 1) _ (le→leb _ _ (h 10 (omega arith) (omega arith))) (T-and (leb (word w i 11) 1) _ (le→leb _ _ (h 11 (omega arith) (omega arith))) (le→leb _ _ (h 12 (omega arith) (omega arith))))
 
 -- the layout test as facts at each place
-pub record LaidOut (w : List ℕ) : Type 0 where
+pub record HeaderLaidOut (w : List ℕ) : Type 0 where
   pub long : venueWords ≤ length w
+  pub numbered : getD w layoutWord 0 ≡ layoutNumber
   pub few : getD w 0 0 ≤ 256
+
+pub record LaidOut (w : List ℕ) : Type 0 where
+  pub header : HeaderLaidOut w
   pub flags : (i : ℕ) → i < getD w 0 0 → T (flagsAt w i)
 
 conj-at : (n : ℕ) (f : ℕ → Bool) → T (conj (tabulate n f)) → (i : ℕ) → i < n → T (f i)
@@ -124,24 +128,36 @@ at-conj zero f h = tt
 at-conj (suc n) f h =
     T-and (f zero) (conj (tabulate n (λ k. f (suc k)))) (h zero (suc-le-suc zero-le)) (at-conj n (λ k. f (suc k)) (λ i l. h (suc i) (suc-le-suc l)))
 
+pub headerLaidOut-facts : (w : List ℕ) → T (headerLaidOut w) → HeaderLaidOut w
+unfolding headerLaidOut
+headerLaidOut-facts w t =
+    let a = and-T (leb venueWords (length w)) _ t in
+    let b = and-T (eqb (getD w layoutWord 0) layoutNumber) (leb (getD w 0 0) 256) (a .1) in
+    record { long = leb→le _ _ (a .0); numbered = eqb→eq _ _ (b .0); few = leb→le _ _ (b .1) }
+
+pub facts-headerLaidOut : (w : List ℕ) → HeaderLaidOut w → T (headerLaidOut w)
+unfolding headerLaidOut
+facts-headerLaidOut w h =
+    T-and (leb venueWords (length w)) _ (le→leb _ _ (h .long)) (T-and (eqb (getD w layoutWord 0) layoutNumber) _ (eq→T (h .numbered)) (le→leb _ _ (h .few)))
+
 pub isBook-laidOut : (w : List ℕ) → T (isBook w) → LaidOut w
 unfolding isBook
 isBook-laidOut w t =
     let n = getD w 0 0 in
-    let a = and-T (leb venueWords (length w)) _ t in
-    let b = and-T (leb n 256) (conj (tabulate n (flagsAt w))) (a .1) in
-    record { long = leb→le _ _ (a .0); few = leb→le _ _ (b .0); flags = conj-at n (flagsAt w) (b .1) }
+    let a = and-T (headerLaidOut w) (conj (tabulate n (flagsAt w))) t in
+    record { header = headerLaidOut-facts w (a .0); flags = conj-at n (flagsAt w) (a .1) }
 
 pub laidOut-isBook : (w : List ℕ) → LaidOut w → T (isBook w)
 unfolding isBook
 laidOut-isBook w h =
-    T-and (leb venueWords (length w)) _ (le→leb _ _ (h .long)) (T-and (leb (getD w 0 0) 256) _ (le→leb _ _ (h .few)) (at-conj (getD w 0 0) (flagsAt w) (h .flags)))
+    T-and (headerLaidOut w) _ (facts-headerLaidOut w (h .header)) (at-conj (getD w 0 0) (flagsAt w) (h .flags))
 
 pub isBook-book : (w : List ℕ) → T (isBook w) → Book w
 isBook-book w t =
     let h = isBook-laidOut w t in
-    record { long = h.long; few = omega (arith, resting-length w, h .few); flags = λ i k l. flagsAt-T w i (h .flags i (omega (arith, resting-length w))) k }
+    let k = h .header in
+    record { long = k.long; numbered = k.numbered; few = omega (arith, resting-length w, k .few); flags = λ i k l. flagsAt-T w i (h .flags i (omega (arith, resting-length w))) k }
 
 pub book-isBook : (w : List ℕ) → Book w → T (isBook w)
 book-isBook w b =
-    laidOut-isBook w (record { long = b.long; few = omega (arith, resting-length w, b .few); flags = λ i l. T-flagsAt w i (λ k. b .flags i k (omega (arith, resting-length w))) })
+    laidOut-isBook w (record { header = record { long = b.long; numbered = b.numbered; few = omega (arith, resting-length w, b .few) }; flags = λ i l. T-flagsAt w i (λ k. b .flags i k (omega (arith, resting-length w))) })

@@ -8,7 +8,7 @@ use lib.ListN.{length, getD, set, take, drop, length-set, length-drop, drop-of-l
 use lib.Seq.{getD-set-same, getD-set-other, length-take-le, getD-append-add, getD-take, getD-drop}
 use borrow.Rule.Slice.PartMut.{midOf, putMid, same-len-mid}
 use Rattle.book.specs.declared.Order.{Order}
-use Rattle.book.specs.rules.Words.{word}
+use Rattle.book.specs.rules.Words.{orderWidth, placeFrom, word}
 use Rattle.book.specs.steps.WordSteps.{Row, Copied, Stored, ShiftedDown, ShiftedUp}
 use Rattle.book.proofs.refinement.TabulateLaws.{by-order}
 use Rattle.book.proofs.refinement.WordLaws.{order-ext}
@@ -28,7 +28,7 @@ copied-more w₀ w at row k c h =
       above = λ j hj. getD-set-other w (at + k) j v 0 (λ e. omega arith) ∙ c .above j (omega arith);
     }
 
-pub copied-stored : (w w′ row : List ℕ) (i : ℕ) (o : Order) → Row row o → Copied w w′ (16 + i * 13) row 13 → Stored w w′ i o
+pub copied-stored : (w w′ row : List ℕ) (i : ℕ) (o : Order) → Row row o → Copied w w′ (placeFrom i) row orderWidth → Stored w w′ i o
 copied-stored w w′ row i o r c =
     record {
       size = c.size;
@@ -42,14 +42,14 @@ pub shifted-down-none : (w : List ℕ) (from : ℕ) → ShiftedDown w w from fro
 shifted-down-none w from =
     record { size = refl; below = λ j h. refl; moved = λ j a b. absurd (omega arith); above = λ j h. refl }
 
-pub shifted-down-more : (w₀ w : List ℕ) (from j : ℕ) → ShiftedDown w₀ w from j → from ≤ j → j < length w → ShiftedDown w₀ (set w j (getD w (j + 13) 0)) from (j + 1)
+pub shifted-down-more : (w₀ w : List ℕ) (from j : ℕ) → ShiftedDown w₀ w from j → from ≤ j → j < length w → ShiftedDown w₀ (set w j (getD w (j + orderWidth) 0)) from (j + 1)
 shifted-down-more w₀ w from j c f h =
-    let v = getD w (j + 13) 0 in
+    let v = getD w (j + orderWidth) 0 in
     record {
       size = length-set w j v ∙ c.size;
       below = λ q hq. getD-set-other w j q v 0 (λ e. omega arith) ∙ c .below q hq;
       moved =
-          λ q a b. by-order q j (λ l. getD-set-other w j q v 0 (λ e. omega arith) ∙ c .moved q a l) (λ l. let e : q ≡ j = omega arith in rw e (getD-set-same w j v 0 h ∙ c .above (j + 13) (omega arith)));
+          λ q a b. by-order q j (λ l. getD-set-other w j q v 0 (λ e. omega arith) ∙ c .moved q a l) (λ l. let e : q ≡ j = omega arith in rw e (getD-set-same w j v 0 h ∙ c .above (j + orderWidth) (omega arith)));
       above = λ q hq. getD-set-other w j q v 0 (λ e. omega arith) ∙ c .above q (omega arith);
     }
 
@@ -57,15 +57,15 @@ pub shifted-up-none : (w : List ℕ) (to : ℕ) → ShiftedUp w w to to
 shifted-up-none w to =
     record { size = refl; below = λ j h. refl; moved = λ j a b. absurd (omega arith); above = λ j h. refl }
 
-pub shifted-up-more : (w₀ w : List ℕ) (j to : ℕ) → ShiftedUp w₀ w (suc j) to → j < to → j + 13 < length w → ShiftedUp w₀ (set w (j + 13) (getD w j 0)) j to
+pub shifted-up-more : (w₀ w : List ℕ) (j to : ℕ) → ShiftedUp w₀ w (suc j) to → j < to → j + orderWidth < length w → ShiftedUp w₀ (set w (j + orderWidth) (getD w j 0)) j to
 shifted-up-more w₀ w j to c f h =
     let v = getD w j 0 in
     record {
-      size = length-set w (j + 13) v ∙ c.size;
-      below = λ q hq. getD-set-other w (j + 13) q v 0 (λ e. omega arith) ∙ c .below q (omega arith);
+      size = length-set w (j + orderWidth) v ∙ c.size;
+      below = λ q hq. getD-set-other w (j + orderWidth) q v 0 (λ e. omega arith) ∙ c .below q (omega arith);
       moved =
-          λ q a b. by-order j q (λ l. getD-set-other w (j + 13) (q + 13) v 0 (λ e. omega arith) ∙ c .moved q l b) (λ l. let e : q ≡ j = omega arith in rw e (getD-set-same w (j + 13) v 0 h ∙ c .below j (omega arith)));
-      above = λ q hq. getD-set-other w (j + 13) q v 0 (λ e. omega arith) ∙ c .above q hq;
+          λ q a b. by-order j q (λ l. getD-set-other w (j + orderWidth) (q + orderWidth) v 0 (λ e. omega arith) ∙ c .moved q l b) (λ l. let e : q ≡ j = omega arith in rw e (getD-set-same w (j + orderWidth) v 0 h ∙ c .below j (omega arith)));
+      above = λ q hq. getD-set-other w (j + orderWidth) q v 0 (λ e. omega arith) ∙ c .above q hq;
     }
 
 -- a step on the words from an index on is one on all words
@@ -100,7 +100,7 @@ module _ (w s′ : List ℕ) (from to : ℕ) (a : from ≤ to) (h : from ≤ len
       record {
         size = same-len-mid from rest w s′ (c .size);
         below = back-below;
-        moved = λ j l m. back-at j l ∙ c .moved (j - from) zero-le (omega arith) ∙ at (j - from + 13) (j + 13) (omega arith);
+        moved = λ j l m. back-at j l ∙ c .moved (j - from) zero-le (omega arith) ∙ at (j - from + orderWidth) (j + orderWidth) (omega arith);
         above = λ j l. back-at j (omega arith) ∙ c .above (j - from) (omega arith) ∙ at (j - from) j (omega arith);
       }
 
@@ -110,6 +110,6 @@ module _ (w s′ : List ℕ) (from to : ℕ) (a : from ≤ to) (h : from ≤ len
         size = same-len-mid from rest w s′ (c .size);
         below = back-below;
         moved =
-            λ j l m. back-at (j + 13) (omega arith) ∙ ap (λ (i : ℕ). getD s′ i 0) (omega arith) ∙ c .moved (j - from) zero-le (omega arith) ∙ at (j - from) j (omega arith);
+            λ j l m. back-at (j + orderWidth) (omega arith) ∙ ap (λ (i : ℕ). getD s′ i 0) (omega arith) ∙ c .moved (j - from) zero-le (omega arith) ∙ at (j - from) j (omega arith);
         above = λ j l. back-at j (omega arith) ∙ c .above (j - from) (omega arith) ∙ at (j - from) j (omega arith);
       }

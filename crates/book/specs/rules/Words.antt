@@ -1,5 +1,5 @@
--- What a run of words means as a book: 16 header words, of which word 0 is the number of orders, then 256 places of 13 words, the
--- used ones in front; a longer run has further words behind. Assumes nothing.
+-- What a run of words means as a book: the header, whose first word is the number of orders and whose last is the number of the layout, then
+-- 256 places, each the words of an order, the used ones in front; a longer run has further words behind. Assumes nothing.
 use Prim.Native.Nat.{ℕ, zero, suc, _+_, _*_}
 use mathlib.Core.Bool.{Bool, true, false, _&&_}
 use mathlib.Core.List.{List, [], _∷_}
@@ -9,9 +9,29 @@ use Rattle.numbers.specs.Tests.{conj, every}
 use Rattle.book.specs.declared.Order.{Order}
 use Rattle.book.specs.rules.Sound.{idsRise, soundOrder, stampsDiffer}
 
--- the words of a venue: 16 + 256 × 13
+-- the words of the header, of an order (one a field) and of a venue
+abbrev pub headerWords : ℕ
+headerWords = 16
+
+abbrev pub orderWidth : ℕ
+orderWidth = 13
+
 abbrev pub venueWords : ℕ
-venueWords = 3344
+venueWords = headerWords + 256 * orderWidth
+
+-- the number of this layout, and the header word that has it: words that were stored under another layout are no venue
+abbrev pub layoutNumber : ℕ
+layoutNumber = 1
+
+abbrev pub layoutWord : ℕ
+layoutWord = 15
+
+-- the flags among the words of an order: from this word on, and before that one
+abbrev pub firstFlag : ℕ
+firstFlag = 10
+
+abbrev pub pastFlags : ℕ
+pastFlags = 13
 
 -- the order whose words these are, in the order of its fields; a flag is the word 0 or 1
 abbrev pub orderOf : List ℕ → Order
@@ -45,24 +65,31 @@ abbrev pub tabulate {ℓ} : {A : Type ℓ} → ℕ → (ℕ → A) → List A
 tabulate zero f = []
 tabulate (suc n) f = f zero ∷ tabulate n (λ k. f (suc k))
 
+-- the index of the first word of place i
+abbrev pub placeFrom : ℕ → ℕ
+placeFrom i = headerWords + i * orderWidth
+
 -- word k of place i
 abbrev pub word : List ℕ → ℕ → ℕ → ℕ
-word w i k = getD w (16 + i * 13 + k) 0
+word w i k = getD w (placeFrom i + k) 0
 
 abbrev pub orderAt : List ℕ → ℕ → Order
-orderAt w i = orderOf (tabulate 13 (word w i))
+orderAt w i = orderOf (tabulate orderWidth (word w i))
 
 -- the orders of a run of words
 unfoldable pub resting : List ℕ → List Order
 resting w = tabulate (getD w 0 0) (orderAt w)
 
--- the layout: long enough, at most 256 orders, and the flags of each are 0 or 1
+-- the layout: long enough, with the number of this layout, at most 256 orders, and the flags of each are 0 or 1
 
 unfoldable pub flagsAt : List ℕ → ℕ → Bool
 flagsAt w i = leb (word w i 10) 1 && (leb (word w i 11) 1 && leb (word w i 12) 1)
 
+unfoldable pub headerLaidOut : List ℕ → Bool
+headerLaidOut w = leb venueWords (length w) && (eqb (getD w layoutWord 0) layoutNumber && leb (getD w 0 0) 256)
+
 unfoldable pub isBook : List ℕ → Bool
-isBook w = leb venueWords (length w) && (leb (getD w 0 0) 256 && conj (tabulate (getD w 0 0) (flagsAt w)))
+isBook w = headerLaidOut w && conj (tabulate (getD w 0 0) (flagsAt w))
 
 -- the words are a book, and its orders meet the conditions of refusal 16
 unfoldable pub soundBook : ℕ → ℕ → List ℕ → Bool

@@ -1,15 +1,15 @@
 -- What the steps over single words do: an order stored, words shifted by one place. Assumes nothing.
-use Prim.Native.Nat.{ℕ, _+_, _*_, _≤_, _<_}
+use Prim.Native.Nat.{ℕ, _+_, _≤_, _<_}
 use mathlib.Core.Path.{_≡_}
 use mathlib.Core.List.{List}
 use lib.ListN.{length, getD}
 use Rattle.book.specs.declared.Order.{Order}
-use Rattle.book.specs.rules.Words.{word, orderAt, orderOf}
+use Rattle.book.specs.rules.Words.{orderWidth, firstFlag, pastFlags, placeFrom, word, orderAt, orderOf}
 
 -- the list is the words of the order o
 pub record Row (row : List ℕ) (o : Order) : Type 0 where
   pub is : orderOf row ≡ o
-  pub flags : (k : ℕ) → 10 ≤ k → k < 13 → getD row k 0 ≤ 1
+  pub flags : (k : ℕ) → firstFlag ≤ k → k < pastFlags → getD row k 0 ≤ 1
 
 -- w′ is w with the first n words of row from index at on
 pub record Copied (w w′ : List ℕ) (at : ℕ) (row : List ℕ) (n : ℕ) : Type 0 where
@@ -22,21 +22,21 @@ pub record Copied (w w′ : List ℕ) (at : ℕ) (row : List ℕ) (n : ℕ) : Ty
 pub record Stored (w w′ : List ℕ) (i : ℕ) (o : Order) : Type 0 where
   pub size : length w′ ≡ length w
   pub new : orderAt w′ i ≡ o
-  pub flags : (k : ℕ) → 10 ≤ k → k < 13 → word w′ i k ≤ 1
-  pub below : (j : ℕ) → j < 16 + i * 13 → getD w′ j 0 ≡ getD w j 0
-  pub above : (j : ℕ) → 16 + i * 13 + 13 ≤ j → getD w′ j 0 ≡ getD w j 0
+  pub flags : (k : ℕ) → firstFlag ≤ k → k < pastFlags → word w′ i k ≤ 1
+  pub below : (j : ℕ) → j < placeFrom i → getD w′ j 0 ≡ getD w j 0
+  pub above : (j : ℕ) → placeFrom i + orderWidth ≤ j → getD w′ j 0 ≡ getD w j 0
 
--- w′ is w, but for the words from index from up to index to, which are those thirteen words on
+-- w′ is w, but for the words from index from up to index to, which are those one place on
 pub record ShiftedDown (w w′ : List ℕ) (from to : ℕ) : Type 0 where
   pub size : length w′ ≡ length w
   pub below : (j : ℕ) → j < from → getD w′ j 0 ≡ getD w j 0
-  pub moved : (j : ℕ) → from ≤ j → j < to → getD w′ j 0 ≡ getD w (j + 13) 0
+  pub moved : (j : ℕ) → from ≤ j → j < to → getD w′ j 0 ≡ getD w (j + orderWidth) 0
   pub above : (j : ℕ) → to ≤ j → getD w′ j 0 ≡ getD w j 0
 
--- w′ is w outside the words from index from up to index to + 13, and has there the words from index from up to index to,
--- thirteen words on
+-- w′ is w outside the words from index from up to index to and one place, and has there the words from index from up to index to,
+-- one place on
 pub record ShiftedUp (w w′ : List ℕ) (from to : ℕ) : Type 0 where
   pub size : length w′ ≡ length w
   pub below : (j : ℕ) → j < from → getD w′ j 0 ≡ getD w j 0
-  pub moved : (j : ℕ) → from ≤ j → j < to → getD w′ (j + 13) 0 ≡ getD w j 0
-  pub above : (j : ℕ) → to + 13 ≤ j → getD w′ j 0 ≡ getD w j 0
+  pub moved : (j : ℕ) → from ≤ j → j < to → getD w′ (j + orderWidth) 0 ≡ getD w j 0
+  pub above : (j : ℕ) → to + orderWidth ≤ j → getD w′ j 0 ≡ getD w j 0

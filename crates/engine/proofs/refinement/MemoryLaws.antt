@@ -10,7 +10,7 @@ use Rattle.numbers.specs.Tests.{pick}
 use Rattle.numbers.proofs.TestLaws.{by-test, neqb}
 use Rattle.book.specs.declared.Order.{Order}
 use Rattle.book.specs.rules.Sound.{idsRise}
-use Rattle.book.specs.rules.Words.{resting}
+use Rattle.book.specs.rules.Words.{headerWords, resting}
 use Rattle.book.specs.steps.BookSteps.{Holds, HeaderSet}
 use Rattle.engine.specs.declared.Market.{Market}
 use Rattle.engine.specs.rules.Venue.{Venue}
@@ -59,7 +59,7 @@ holds-becomes {w} {w′} {os} t h =
       same = record { size = h .size; spare = λ j l s. h .header j (omega arith) s; behind = h .behind };
     }
   where
-    k : (j : ℕ) → 0 < j → j < 16 → getD w′ j 0 ≡ getD w j 0
+    k : (j : ℕ) → 0 < j → j < headerWords → getD w′ j 0 ≡ getD w j 0
     k = h .header
 
 -- a step of the engine, as what the words become

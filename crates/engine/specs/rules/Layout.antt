@@ -4,7 +4,7 @@ use mathlib.Core.Path.{_≡_}
 use mathlib.Core.Bool.{Bool, _&&_}
 use mathlib.Core.List.{List}
 use lib.ListN.{length, getD}
-use Rattle.book.specs.rules.Words.{venueWords, resting, isBook}
+use Rattle.book.specs.rules.Words.{headerWords, venueWords, resting, isBook}
 use Rattle.engine.specs.rules.Venue.{Venue}
 use Rattle.engine.specs.rules.Sound.{sound}
 
@@ -26,5 +26,5 @@ soundWords w = isBook w && sound (venueOf w)
 -- what no event changes: the length, the spare words, the words behind the venue
 pub record SameSpare (w w′ : List ℕ) : Type 0 where
   pub size : length w′ ≡ length w
-  pub spare : (j : ℕ) → 7 ≤ j → j < 16 → getD w′ j 0 ≡ getD w j 0
+  pub spare : (j : ℕ) → 7 ≤ j → j < headerWords → getD w′ j 0 ≡ getD w j 0
   pub behind : (j : ℕ) → venueWords ≤ j → getD w′ j 0 ≡ getD w j 0

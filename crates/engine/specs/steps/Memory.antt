@@ -8,7 +8,7 @@ use lib.ListN.{length, getD}
 use Rattle.numbers.specs.SevenBit.{Put}
 use Rattle.book.specs.declared.Order.{Order}
 use Rattle.book.specs.rules.Sound.{idsRise}
-use Rattle.book.specs.rules.Words.{venueWords, resting}
+use Rattle.book.specs.rules.Words.{headerWords, venueWords, resting}
 use Rattle.book.specs.steps.BookSteps.{Book}
 use Rattle.engine.specs.declared.Market.{Market}
 use Rattle.engine.specs.declared.Event.{Event}
@@ -37,7 +37,7 @@ pub record Ordered (w : List ℕ) : Type 0 where
 -- what no step but the last of an event changes: the length, the header but for the count, the words behind the venue
 pub record SameHeader (w w′ : List ℕ) : Type 0 where
   pub size : length w′ ≡ length w
-  pub header : (j : ℕ) → 0 < j → j < 16 → getD w′ j 0 ≡ getD w j 0
+  pub header : (j : ℕ) → 0 < j → j < headerWords → getD w′ j 0 ≡ getD w j 0
   pub behind : (j : ℕ) → venueWords ≤ j → getD w′ j 0 ≡ getD w j 0
 
 -- a step of the header, or of a whole event: the words w′ are then the venue v

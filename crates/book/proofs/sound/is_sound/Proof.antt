@@ -4,10 +4,11 @@ use Prim.Native.Nat.{ℕ, _-_}
 use mathlib.Core.Path.{_≡_, refl, sym, ap, _∙_}
 use native.Mathlib.Omega.{arith}
 use lib.ListN.{getD}
-use Rattle.numbers.proofs.TestLaws.{not-yes, not-no}
+use Rattle.numbers.proofs.TestLaws.{answered-T, not-yes, not-no}
 use Rattle.book.specs.steps.RecordWalk.{lastIn, idBefore}
+use Rattle.book.proofs.refinement.WordLaws.{headerLaidOut-facts}
 use Rattle.book.proofs.refinement.StampLaws.{idBefore-next}
-use Rattle.book.proofs.refinement.WalkLaws.{Walked, walked-start, walked-more, walked-all, too-short, too-many, unsound-place, seen-stamp}
+use Rattle.book.proofs.refinement.WalkLaws.{Walked, walked-start, walked-more, walked-all, not-laid-out, unsound-place, seen-stamp}
 use Rattle.book.proofs.sound.is_sound.Statement.{statement}
 use Rattle.book.proofs.sound.is_sound.Tie as tie
 
@@ -18,26 +19,26 @@ Inv-loop w last-id last-stamp n heads₀ links₀ before₀ i₀ heads links bef
 abbrev μ-loop : tie.MeasureT-loop
 μ-loop w last-id last-stamp n heads₀ links₀ before₀ i₀ heads links before i = n - i
 
+header-laid-out-requires : tie.Need-header-laid-out-requires Inv-loop μ-loop
+header-laid-out-requires c κs = search needs
+
 returns : tie.Need-returns Inv-loop μ-loop
-returns c = let s = c .before .before in let w = s .args .w .now in let a = s .args .last-id in let b = s .args .last-stamp in too-short a b w (c .if1 .taken)
+returns c = let s = c .before .before .before in let h = c .before .header-laid-out in not-laid-out (s .args .last-id) (s .args .last-stamp) (s .args .w .now) (sym (h .ensures) ∙ not-yes (h .result) (c .if1 .taken))
 
 shared-slice-read-wide : tie.Need-shared-slice-read-wide Inv-loop μ-loop
-shared-slice-read-wide c = search needs
+shared-slice-read-wide c = let h = c .before .before .header-laid-out in let k = headerLaidOut-facts (c .before .before .before .before .args .w .now) (answered-T (h .ensures) (not-no (h .result) (c .before .if1 .left))) in search (needs, k .long)
 
 wide-requires : tie.Need-wide-requires Inv-loop μ-loop
 wide-requires c κs = search needs
 
-returns-2 : tie.Need-returns-2 Inv-loop μ-loop
-returns-2 c = let s = c .before .before .before .before .before in let w = s .args .w .now in let a = s .args .last-id in let b = s .args .last-stamp in too-many a b w (omega (arith, c .before .wide .ensures, c .if2 .taken))
-
 loop-holds : tie.Need-loop-holds Inv-loop μ-loop
-loop-holds c = let s = c .before .before .before .before .before in let w = s .args .w .now in let a = s .args .last-id in let b = s .args .last-stamp in (walked-start a b w (omega arith) (omega (arith, c .before .wide .ensures, c .if2 .left)), c .before .wide .ensures, refl)
+loop-holds c = let s = c .before .before .before .before .before in let h = c .before .before .before .header-laid-out in (walked-start (s .args .last-id) (s .args .last-stamp) (s .args .w .now) (sym (h .ensures) ∙ not-no (h .result) (c .before .before .if1 .left)), c .wide .ensures, refl)
 
 place-sound-requires : tie.Need-place-sound-requires Inv-loop μ-loop
-place-sound-requires c κs = let k = c .before .loop .inv .0 in (k .long, omega (arith, c .loop-test .taken, k .few, c .before .loop .inv .1), c .before .loop .inv .2)
+place-sound-requires c κs = let k = c .before .loop .inv .0 in (k .header .long, omega (arith, c .loop-test .taken, k .header .few, c .before .loop .inv .1), c .before .loop .inv .2)
 
-returns-3 : tie.Need-returns-3 Inv-loop μ-loop
-returns-3 c = let s = c .before .before .before .before .before .before .before .before .before in let w = s .args .w .now in let a = s .args .last-id in let b = s .args .last-stamp in unsound-place a b w (c .before .before .before .loop .i) (omega (arith, c .before .before .loop-test .taken, c .before .before .before .loop .inv .1)) (sym (c .before .place-sound .ensures) ∙ not-yes (c .before .place-sound .result) (c .if3 .taken))
+returns-2 : tie.Need-returns-2 Inv-loop μ-loop
+returns-2 c = let s = c .before .before .before .before .before .before .before .before .before in let w = s .args .w .now in let a = s .args .last-id in let b = s .args .last-stamp in unsound-place a b w (c .before .before .before .loop .i) (omega (arith, c .before .before .loop-test .taken, c .before .before .before .loop .inv .1)) (sym (c .before .place-sound .ensures) ∙ not-yes (c .before .place-sound .result) (c .if2 .taken))
 
 word-at-requires : tie.Need-word-at-requires Inv-loop μ-loop
 word-at-requires c κs = search needs
@@ -52,10 +53,10 @@ array-read-last : tie.Need-array-read-last Inv-loop μ-loop
 array-read-last c = search needs
 
 stamp-seen-requires : tie.Need-stamp-seen-requires Inv-loop μ-loop
-stamp-seen-requires c κs = let k = c .before .before .before .before .before .before .loop .inv .0 in (k .long, omega (arith, k .inside, k .few), k .chains .linked, k .chains .lasts (c .before .wide2 .result) (omega (arith, c .before .wide2 .ensures)) ∙ ap (λ (x : ℕ). lastIn (c .before .before .before .before .before .before .before .before .before .before .before .before .args .w .now) x (c .before .before .before .before .before .before .loop .i)) (c .before .wide2 .ensures))
+stamp-seen-requires c κs = let k = c .before .before .before .before .before .before .loop .inv .0 in (k .header .long, omega (arith, k .inside, k .header .few), k .chains .linked, k .chains .lasts (c .before .wide2 .result) (omega (arith, c .before .wide2 .ensures)) ∙ ap (λ (x : ℕ). lastIn (c .before .before .before .before .before .before .before .before .before .before .before .before .args .w .now) x (c .before .before .before .before .before .before .loop .i)) (c .before .wide2 .ensures))
 
-returns-4 : tie.Need-returns-4 Inv-loop μ-loop
-returns-4 c = let s = c .before .before .before .before .before .before .before .before .before .before .before .before .before .before in let w = s .args .w .now in let a = s .args .last-id in let b = s .args .last-stamp in seen-stamp a b w (c .before .before .before .before .before .before .before .before .loop .i) (c .before .before .before .before .word-at .result) (omega (arith, c .before .before .before .before .before .before .before .loop-test .taken, c .before .before .before .before .before .before .before .before .loop .inv .1)) (c .before .before .before .before .word-at .ensures) (sym (c .before .stamp-seen .ensures) ∙ c .if4 .taken)
+returns-3 : tie.Need-returns-3 Inv-loop μ-loop
+returns-3 c = let s = c .before .before .before .before .before .before .before .before .before .before .before .before .before .before in let w = s .args .w .now in let a = s .args .last-id in let b = s .args .last-stamp in seen-stamp a b w (c .before .before .before .before .before .before .before .before .loop .i) (c .before .before .before .before .word-at .result) (omega (arith, c .before .before .before .before .before .before .before .loop-test .taken, c .before .before .before .before .before .before .before .before .loop .inv .1)) (c .before .before .before .before .word-at .ensures) (sym (c .before .stamp-seen .ensures) ∙ c .if3 .taken)
 
 mul-links : tie.Need-mul-links Inv-loop μ-loop
 mul-links c = search needs
@@ -85,10 +86,10 @@ loop-less : tie.Need-loop-less Inv-loop μ-loop
 loop-less c = search needs
 
 loop-again : tie.Need-loop-again Inv-loop μ-loop
-loop-again c = let s = c .before .before .before .before .before .before .before .before .before .before .before .before .before .before .before in let w = s .args .w .now in let a = s .args .last-id in let b = s .args .last-stamp in (walked-more a b w (c .before .before .before .before .before .word-at .result) (c .before .before .before .before .wide2 .result) _ (c .before .before .before .before .before .before .before .before .before .loop .inv .0) (omega (arith, c .before .before .before .before .before .before .before .before .loop-test .taken, c .before .before .before .before .before .before .before .before .before .loop .inv .1)) (c .before .before .before .before .before .word-at .ensures) (c .before .before .before .before .wide2 .ensures) refl (sym (c .before .before .before .before .before .before .before .place-sound .ensures) ∙ not-no (c .before .before .before .before .before .before .before .place-sound .result) (c .before .before .before .before .before .before .if3 .left)) (sym (c .before .before .stamp-seen .ensures) ∙ c .before .if4 .left), c .before .before .before .before .before .before .before .before .before .loop .inv .1, c .word-at2 .ensures ∙ idBefore-next w (c .before .before .before .before .before .before .before .before .before .loop .i))
+loop-again c = let s = c .before .before .before .before .before .before .before .before .before .before .before .before .before .before .before in let w = s .args .w .now in let a = s .args .last-id in let b = s .args .last-stamp in (walked-more a b w (c .before .before .before .before .before .word-at .result) (c .before .before .before .before .wide2 .result) _ (c .before .before .before .before .before .before .before .before .before .loop .inv .0) (omega (arith, c .before .before .before .before .before .before .before .before .loop-test .taken, c .before .before .before .before .before .before .before .before .before .loop .inv .1)) (c .before .before .before .before .before .word-at .ensures) (c .before .before .before .before .wide2 .ensures) refl (sym (c .before .before .before .before .before .before .before .place-sound .ensures) ∙ not-no (c .before .before .before .before .before .before .before .place-sound .result) (c .before .before .before .before .before .before .if2 .left)) (sym (c .before .before .stamp-seen .ensures) ∙ c .before .if3 .left), c .before .before .before .before .before .before .before .before .before .loop .inv .1, c .word-at2 .ensures ∙ idBefore-next w (c .before .before .before .before .before .before .before .before .before .loop .i))
 
-returns-5 : tie.Need-returns-5 Inv-loop μ-loop
-returns-5 c = let s = c .before .before .before .before .before .before .before in let w = s .args .w .now in let a = s .args .last-id in let b = s .args .last-stamp in walked-all a b w (c .before .loop .inv .0) (omega (arith, c .loop-test .left, c .before .loop .inv .1))
+returns-4 : tie.Need-returns-4 Inv-loop μ-loop
+returns-4 c = let s = c .before .before .before .before .before .before .before in let w = s .args .w .now in let a = s .args .last-id in let b = s .args .last-stamp in walked-all a b w (c .before .loop .inv .0) (omega (arith, c .loop-test .left, c .before .loop .inv .1))
 
 pub is-sound-spec : {M : Type 1} → statement M
 is-sound-spec =
@@ -96,19 +97,19 @@ is-sound-spec =
     (tie.spec
     Inv-loop
     μ-loop
+    header-laid-out-requires
     returns
     shared-slice-read-wide
     wide-requires
-    returns-2
     loop-holds
     place-sound-requires
-    returns-3
+    returns-2
     word-at-requires
     wide-requires-2
     mul-last
     array-read-last
     stamp-seen-requires
-    returns-4
+    returns-3
     mul-links
     array-write-links
     add-heads
@@ -119,4 +120,4 @@ is-sound-spec =
     add-i
     loop-less
     loop-again
-    returns-5)
+    returns-4)

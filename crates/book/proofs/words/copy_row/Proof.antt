@@ -3,16 +3,17 @@ use borrow.Author.Needs.{needs}
 use Prim.Native.Nat.{_-_, _≤_}
 use native.Mathlib.Omega.{arith}
 use mathlib.Core.Path.{_≡_}
+use Rattle.book.specs.rules.Words.{orderWidth}
 use Rattle.book.specs.steps.WordSteps.{Copied}
 use Rattle.book.proofs.refinement.WordStepLaws.{copied-none, copied-more}
 use Rattle.book.proofs.words.copy_row.Statement.{statement}
 use Rattle.book.proofs.words.copy_row.Tie as tie
 
 abbrev Inv-loop : tie.InvT-loop
-Inv-loop w₀ at row k₀ w k = Copied w₀ w at row k × (k ≤ 13)
+Inv-loop w₀ at row k₀ w k = Copied w₀ w at row k × (k ≤ orderWidth)
 
 abbrev μ-loop : tie.MeasureT-loop
-μ-loop w₀ at row k₀ w k = 13 - k
+μ-loop w₀ at row k₀ w k = orderWidth - k
 
 loop-holds : tie.Need-loop-holds Inv-loop μ-loop
 loop-holds c = (copied-none _ _ _, search needs)
@@ -45,7 +46,7 @@ same-length : tie.Need-same-length Inv-loop μ-loop
 same-length c = c .before .loop .inv .0 .size
 
 returns : tie.Need-returns Inv-loop μ-loop
-returns c = let e : c .before .loop .k ≡ 13 = omega arith in rw e at (c .before .loop .inv .0)
+returns c = let e : c .before .loop .k ≡ orderWidth = omega arith in rw e at (c .before .loop .inv .0)
 
 pub copy-row-spec : {M : Type 1} → statement M
 copy-row-spec =
