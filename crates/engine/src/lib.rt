@@ -13,6 +13,7 @@ mod slide;
 mod working;
 
 use book::Order;
+use book::words;
 
 // The close, the phase of the restriction and the national bid.
 pub struct Market {
@@ -120,5 +121,5 @@ pub enum OpenAnswer {
 // A fresh venue, with words all 0 where none was made.
 pub struct Opened {
     pub answer: OpenAnswer,
-    pub words: [u32; 3344],
+    pub words: [u32; words::VENUE],
 }

@@ -2,15 +2,18 @@
 use crate::OpenAnswer;
 use crate::Opened;
 use crate::Refusal;
+use crate::header;
+use book::words;
 use prices::increments;
 ghost use Rattle.engine.specs.claims.Calls.{Opens};
 
 pub fn open(close: u32) -> Opened
     ensures { λ r. ⌜ Opens close (r .answer) (r .words) ⌝ }
 {
-    let mut words = [0u32; 3344];
+    let mut words = [0u32; words::VENUE];
     if increments::is_legal(close) {
-        words[1] = close;
+        words[header::CLOSE] = close;
+        words[words::LAYOUT_WORD] = words::LAYOUT;
         return Opened {
             answer: OpenAnswer::Fresh,
             words,

@@ -3,11 +3,13 @@ use Prim.Native.Nat.{ℕ, _≤_}
 use native.Mathlib.Omega.{arith}
 use mathlib.Core.Path.{_≡_, refl, sym, ap, _∙_, subst}
 use mathlib.Core.Option.{Option, none as nothing, some}
+use mathlib.Core.Bool.{Bool, true, false}
 use mathlib.Core.List.{List, map}
 use lib.Dec.{T}
 use lib.ListN.{length}
 use lib.Seq.{take-append-seam}
-use Rattle.numbers.specs.Tests.{All}
+use Rattle.numbers.specs.Tests.{pick, All}
+use Rattle.numbers.proofs.TestLaws.{T-true}
 use Rattle.numbers.specs.Answers.{Outcome, gives, refuses}
 use Rattle.numbers.specs.SevenBit.{overwrite, Stands}
 use borrow.Author.Tests.{le-leb}
@@ -23,7 +25,7 @@ use Rattle.engine.specs.rules.Run.{Step, stepUnless, step, Call, Run, ru
 use Rattle.engine.specs.rules.Records.{recordNumbers, reportsBytes}
 use Rattle.engine.specs.claims.RoundTrips.{Word, ReportWords}
 use Rattle.engine.specs.rules.Layout.{venueOf}
-use Rattle.engine.specs.claims.Calls.{openedWords, stepIn, countOf, bufferAfter, Applied, HostCall, Chain, none, more, LawfulCalls, withReports, readOf, answeredOf, Demand3OfCalls, NoCallGets16, bytesGot, reportsGot, LongEnough, SameForBoth, EqualReports}
+use Rattle.engine.specs.claims.Calls.{stepIn, countOf, bufferAfter, Applied, HostCall, Chain, none, more, LawfulCalls, withReports, readOf, answeredOf, Demand3OfCalls, NoCallGets16, bytesGot, reportsGot, LongEnough, SameForBoth, EqualReports}
 use Rattle.engine.proofs.refinement.RefusalLaws.{NotRefused, Unless, refusal-known}
 use Rattle.engine.proofs.refinement.OpeningLaws.{opening-gives, opened-book, opened-venue, step-in}
 use Rattle.engine.proofs.demand3.ReachedLaws.{reached-is-sound}
@@ -124,10 +126,10 @@ module _ (close : ℕ) (t : T (legal close)) {w₀ : List ℕ} (u : T (isBook w�
       counted (refuses n) y = let q : n ≡ 16 = cc in ap refuses q
 
 pub demand3-of-calls : Demand3OfCalls
-demand3-of-calls close t = demand3-from close t (opened-book close) (opened-venue close t)
+demand3-of-calls close t = demand3-from close t (opened-book close t) (opened-venue close t)
 
 pub no-call-gets-16 : NoCallGets16
-no-call-gets-16 close t = no-16-from close t (opened-book close) (opened-venue close t)
+no-call-gets-16 close t = no-16-from close t (opened-book close t) (opened-venue close t)
 
 -- equal events
 
@@ -145,19 +147,32 @@ unfolding overwrite
 got-bytes a b (gives rs) = take-append-seam (reportsBytes rs) _ ∙ sym (take-append-seam (reportsBytes rs) _)
 got-bytes a b (refuses n) = refl
 
-pub both : {w v w′ v′ : List ℕ} {cs ds : List HostCall} → T (isBook w) → T (isBook v) → venueOf w ≡ venueOf v → Chain w cs w′ → Chain v ds v′ → map (λ (c : HostCall). c .event) cs ≡ map (λ (c : HostCall). c .event) ds → All LongEnough cs → All LongEnough ds → SameForBoth cs ds w′ v′
-both t u e none none q h k = record { answers = refl; reports = refl; venue = e }
-both t u e none (more y b d) q h k = let z : _≡_ {A = ℕ} 0 1 = cc in absurd (omega arith)
-both t u e (more x a c) none q h k = let z : _≡_ {A = ℕ} 0 1 = cc in absurd (omega arith)
-both {w} {v} t u e (more {c = c} x a cs) (more {c = d} y b ds) q h k =
+-- no call makes a layout of words that have none
+layout-kept : {w b w′ b′ : List ℕ} {e : Event} {answer : Outcome ℕ} → Applied w e b answer w′ b′ → isBook w′ ≡ isBook w
+unfolding stepIn pick
+layout-kept {w} {b} {w′} a = go (isBook w) refl
+  where
+    go : (x : Bool) → isBook w ≡ x → isBook w′ ≡ isBook w
+    go true q = T-true _ (a .layout (rw q tt)) ∙ sym q
+    go false q = ap isBook (a .refused 16 (a .answers ∙ rw q))
+
+-- words alike in layout and venue take the same step
+step-alike : (w v : List ℕ) (e : Event) (m n : ℕ) → isBook w ≡ isBook v → venueOf w ≡ venueOf v → leastBuffer ≤ m → leastBuffer ≤ n → stepIn w e m ≡ stepIn v e n
+unfolding stepIn
+step-alike w v e m n q f h k = rw (q, f, step-same (venueOf v) e m n h k)
+
+pub both : {w v w′ v′ : List ℕ} {cs ds : List HostCall} → isBook w ≡ isBook v → venueOf w ≡ venueOf v → Chain w cs w′ → Chain v ds v′ → map (λ (c : HostCall). c .event) cs ≡ map (λ (c : HostCall). c .event) ds → All LongEnough cs → All LongEnough ds → SameForBoth cs ds w′ v′
+both t e none none q h k = record { answers = refl; reports = refl; venue = e }
+both t e none (more y b d) q h k = let z : _≡_ {A = ℕ} 0 1 = cc in absurd (omega arith)
+both t e (more x a c) none q h k = let z : _≡_ {A = ℕ} 0 1 = cc in absurd (omega arith)
+both {w} {v} t e (more {c = c} x a cs) (more {c = d} y b ds) q h k =
     let p : c.event ≡ d.event = cc in
-    let s : Step = step (venueOf w) (c .event) (length (c .lent)) in
-    let f : stepIn w (c .event) (length (c .lent)) ≡ s = step-in w (c .event) (length (c .lent)) t in
-    let g : stepIn v (d .event) (length (d .lent)) ≡ s = step-in v (d .event) (length (d .lent)) u ∙ rw (← e, ← p) (step-same (venueOf w) (c .event) (length (d .lent)) (length (c .lent)) (k .0) (h .0)) in
-    let r = both (a .layout t) (b .layout u) (a .venue ∙ ap (λ (z : Step). z .venue) (f ∙ sym g) ∙ sym (b .venue)) cs ds (cc) (h .1) (k .1) in
-    let answer : c.answer ≡ d.answer = a .answers ∙ ap (λ (z : Step). countOf (z .answer)) (f ∙ sym g) ∙ sym (b .answers) in
-    let got : reportsGot c ≡ reportsGot d = rw (a .buffer, a .answers, f, b .buffer, b .answers, g) (got-bytes (c .lent) (d .lent) (s .answer)) in
+    let s : Step = stepIn w (c .event) (length (c .lent)) in
+    let f : s ≡ stepIn v (d .event) (length (d .lent)) = step-alike w v (c .event) (length (c .lent)) (length (d .lent)) t e (h .0) (k .0) ∙ ap (λ (z : Event). stepIn v z (length (d .lent))) p in
+    let r = both (layout-kept a ∙ t ∙ sym (layout-kept b)) (a .venue ∙ ap (λ (z : Step). z .venue) f ∙ sym (b .venue)) cs ds (cc) (h .1) (k .1) in
+    let answer : c.answer ≡ d.answer = a .answers ∙ ap (λ (z : Step). countOf (z .answer)) f ∙ sym (b .answers) in
+    let got : reportsGot c ≡ reportsGot d = rw (a .buffer, a .answers, b .buffer, b .answers, ← f) (got-bytes (c .lent) (d .lent) (s .answer)) in
     record { answers = cc (r .answers); reports = cc (r .reports); venue = r .venue }
 
 pub equal-reports : EqualReports
-equal-reports close cs ds w v c d = both (opened-book close) (opened-book close) refl c d
+equal-reports close cs ds w v c d = both refl refl c d

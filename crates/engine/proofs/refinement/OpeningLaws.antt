@@ -3,25 +3,22 @@ use Prim.Native.Nat.{ℕ}
 use native.Mathlib.Omega.{arith}
 use mathlib.Core.Path.{_≡_, refl, ap, _∙_}
 use mathlib.Core.Bool.{true, false, not}
-use mathlib.Core.List.{List, [], _∷_, _++_, append-nil}
-use lib.Dec.{T}
-use lib.ListN.{replicate, length-append, length-replicate}
+use mathlib.Core.List.{List, [], _++_, append-nil}
+use lib.Dec.{T, not-T}
+use lib.ListN.{length, set, replicate, length-append, length-replicate, length-set}
 use Rattle.numbers.specs.Answers.{Outcome, gives, refuses}
-use Rattle.numbers.specs.Tests.{pick, every}
+use Rattle.numbers.specs.Tests.{pick}
 use Rattle.numbers.proofs.TestLaws.{by-test, pick-yes, pick-no}
 use Rattle.prices.specs.Prices.{legal}
-use Rattle.book.specs.rules.Sound.{idsRise, stampsDiffer}
-use Rattle.book.specs.rules.Words.{venueWords, isBook}
-use Rattle.book.proofs.refinement.WordLaws.{resting-tabulate, laidOut-isBook}
+use Rattle.book.specs.rules.Words.{venueWords, layoutNumber, layoutWord, isBook}
+use Rattle.book.proofs.refinement.WordLaws.{resting-tabulate, isBook-laidOut, laidOut-isBook}
 use Rattle.engine.specs.declared.Event.{Event}
 use Rattle.engine.specs.declared.Refusal.the-variants.{PriceNotLegal}
 use Rattle.engine.specs.declared.OpenAnswer.the-variants.{Fresh, NotOpened}
 use Rattle.engine.specs.rules.Venue.{Venue, opened, opening}
-use Rattle.engine.specs.rules.Sound.{sound}
-use Rattle.engine.specs.rules.Refusals.{refuseUnless, refusal}
-use Rattle.engine.specs.rules.Run.{stepUnless, step}
+use Rattle.engine.specs.rules.Run.{Step, step}
 use Rattle.engine.specs.rules.Layout.{venueOf}
-use Rattle.engine.specs.claims.Calls.{openedWords, Opens, stepIn}
+use Rattle.engine.specs.claims.Calls.{freshWords, openedWords, Opens, stepIn}
 
 pub record Opened (close : ℕ) (v : Venue) : Type 0 where
   pub legal : T (legal close)
@@ -39,14 +36,15 @@ pub opening-gives : (close : ℕ) → T (legal close) → opening close ≡ give
 unfolding opening
 opening-gives close t = pick-yes (legal close) _ _ t
 
--- the words with a close, and 0 elsewhere
+-- the words of a fresh venue
 
-abbrev pub freshWords : ℕ → List ℕ
-freshWords x = 0 ∷ x ∷ replicate 3342 0
+pub fresh-length : (x : ℕ) → length (freshWords x) ≡ venueWords
+fresh-length x =
+    length-set (set (replicate venueWords 0) 1 x) layoutWord layoutNumber ∙ length-set (replicate venueWords 0) 1 x ∙ length-replicate {A = ℕ} venueWords 0
 
 fresh-book : (x : ℕ) (behind : List ℕ) → T (isBook (freshWords x ++ behind))
 fresh-book x behind =
-    laidOut-isBook (freshWords x ++ behind) (record { long = omega (arith, length-append (freshWords x) behind, length-replicate {A = ℕ} 3342 0); few = omega arith; flags = λ i l. absurd (omega arith) })
+    laidOut-isBook (freshWords x ++ behind) (record { header = record { long = omega (arith, length-append (freshWords x) behind, fresh-length x); numbered = refl; few = omega arith }; flags = λ i l. absurd (omega arith) })
 
 fresh-venue : (x : ℕ) (behind : List ℕ) → venueOf (freshWords x ++ behind) ≡ opened x
 unfolding venueOf opened
@@ -59,22 +57,20 @@ opened-yes : (close : ℕ) → T (legal close) → openedWords close ≡ freshWo
 unfolding openedWords
 opened-yes close t = pick-yes (legal close) _ _ t
 
-opened-no : (close : ℕ) → T (not (legal close)) → openedWords close ≡ freshWords 0
+opened-no : (close : ℕ) → T (not (legal close)) → openedWords close ≡ replicate venueWords 0
 unfolding openedWords
 opened-no close t = pick-no (legal close) _ _ t
 
 -- with further words behind them, and without
 
-pub opened-book-with : (close : ℕ) (behind : List ℕ) → T (isBook (openedWords close ++ behind))
-unfolding openedWords
-opened-book-with close behind =
-    by-test (λ (w : List ℕ). T (isBook (w ++ behind))) (legal close) (λ t. fresh-book close behind) (λ t. fresh-book 0 behind)
+pub opened-book-with : (close : ℕ) (behind : List ℕ) → T (legal close) → T (isBook (openedWords close ++ behind))
+opened-book-with close behind t = rw (opened-yes close t) (fresh-book close behind)
 
 pub opened-venue-with : (close : ℕ) (behind : List ℕ) → T (legal close) → venueOf (openedWords close ++ behind) ≡ opened close
 opened-venue-with close behind t = ap (λ (w : List ℕ). venueOf (w ++ behind)) (opened-yes close t) ∙ fresh-venue close behind
 
-pub opened-book : (close : ℕ) → T (isBook (openedWords close))
-opened-book close = rw append-nil at (opened-book-with close [])
+pub opened-book : (close : ℕ) → T (legal close) → T (isBook (openedWords close))
+opened-book close t = rw append-nil at (opened-book-with close [] t)
 
 pub opened-venue : (close : ℕ) → T (legal close) → venueOf (openedWords close) ≡ opened close
 opened-venue close t = rw append-nil at (opened-venue-with close [] t)
@@ -84,13 +80,14 @@ pub step-in : (w : List ℕ) (e : Event) (n : ℕ) → T (isBook w) → stepIn w
 unfolding stepIn
 step-in w e n t = pick-yes (isBook w) _ _ t
 
-broken : (e : Event) (n : ℕ) → step (opened 0) e n .answer ≡ refuses 16
-unfolding step stepUnless refusal refuseUnless sound opened legal idsRise every stampsDiffer
-broken e n = refl
+-- words of which all are 0 don't have the number of the layout
+zeros-no-book : T (isBook (replicate venueWords 0)) → ⊥
+zeros-no-book t = let z : 0 ≡ layoutNumber = isBook-laidOut (replicate venueWords 0) t .header .numbered in omega arith
 
 -- the words that open leaves where it makes no venue are refused with 16
 pub not-opened : (close : ℕ) → T (not (legal close)) → (e : Event) (n : ℕ) → stepIn (openedWords close) e n .answer ≡ refuses 16
-not-opened close t e n = rw (step-in (openedWords close) e n (opened-book close), opened-no close t, fresh-none 0) (broken e n)
+unfolding stepIn
+not-opened close t e n = rw (opened-no close t) (ap (λ (s : Step). s .answer) (pick-no (isBook (replicate venueWords 0)) _ _ (not-T (isBook (replicate venueWords 0)) zeros-no-book)))
 
 -- what open answers and leaves
 

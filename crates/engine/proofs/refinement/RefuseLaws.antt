@@ -6,11 +6,10 @@ use mathlib.Core.Path.{_≡_}
 use mathlib.Core.Bool.{Bool, true, false, _&&_}
 use mathlib.Core.Option.{Option, none, some}
 use mathlib.Core.List.{List}
-use lib.Dec.{T, leb, le→leb}
+use lib.Dec.{T, leb, le→leb, not-T}
 use lib.ListN.{length, getD}
-use borrow.Author.Tests.{lt-leb}
 use Rattle.numbers.specs.Tests.{conj}
-use Rattle.numbers.proofs.TestLaws.{and-T, T-and, bool-ext, Each, conj-T, T-conj, every-T, T-every}
+use Rattle.numbers.proofs.TestLaws.{T-false, and-T, T-and, bool-ext, Each, conj-T, T-conj, every-T, T-every}
 use Rattle.book.specs.declared.Order.{Order}
 use Rattle.book.specs.rules.Sound.{soundOrder}
 use Rattle.book.specs.rules.Words.{venueWords, resting, isBook, soundBook}
@@ -62,7 +61,7 @@ module _ (w : List ℕ) where
   header-first = bool-ext (soundWords w) (conj (headerConditions (venueOf w)) && BookTests) there back
     where
       few : T (isBook w) → T (leb (length (resting w)) mostOrders)
-      few t = le→leb (length (resting w)) mostOrders (omega (arith, resting-length w, isBook-laidOut w t .few))
+      few t = le→leb (length (resting w)) mostOrders (omega (arith, resting-length w, isBook-laidOut w t .header .few))
 
       there : T (soundWords w) → T (conj (headerConditions (venueOf w)) && BookTests)
       there t =
@@ -76,5 +75,4 @@ module _ (w : List ℕ) where
           T-and (isBook w) (sound (venueOf w)) (p .layout) (T-conj (venueConditions (venueOf w)) (few (p .layout), (p .rising, (T-every (soundOrder (getD w 4 0) (getD w 5 0)) (resting w) (p .orders), (p .stamps, conj-T (headerConditions (venueOf w)) (h .0))))))
 
   pub short-words : length w < venueWords → soundWords w ≡ false
-  unfolding soundWords isBook
-  short-words l = rw (lt-leb venueWords (length w) l)
+  short-words l = T-false (soundWords w) (not-T (soundWords w) (λ t. omega (arith, isBook-laidOut w (words-each t .0) .header .long)))

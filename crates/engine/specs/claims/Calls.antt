@@ -4,12 +4,12 @@ use mathlib.Core.Path.{_≡_}
 use mathlib.Core.List.{List, [], _∷_, map}
 use mathlib.Core.Option.{Option, none as nothing, some}
 use lib.Dec.{T}
-use lib.ListN.{length, take, replicate}
+use lib.ListN.{length, take, set, replicate}
 use Rattle.numbers.specs.Tests.{pick, All}
 use Rattle.numbers.specs.Answers.{Outcome, gives, refuses}
 use Rattle.numbers.specs.SevenBit.{overwrite}
 use Rattle.prices.specs.Prices.{legal}
-use Rattle.book.specs.rules.Words.{venueWords, resting, isBook}
+use Rattle.book.specs.rules.Words.{venueWords, layoutNumber, layoutWord, resting, isBook}
 use Rattle.engine.specs.declared.Event.{Event}
 use Rattle.engine.specs.declared.Refusal.{Refusal}
 use Rattle.engine.specs.declared.Refusal.the-variants.{BufferTooShort, EventsSpent, PriceNotLegal, SharesOutOfRange, CodeOutOfRange, IdNotNew, BookFull, NotResting, VenueBroken}
@@ -58,9 +58,12 @@ outcomeOfOpen (NotOpened r) words = refuses (refusalNumber r)
 
 -- Open
 
--- the words of a fresh venue; all 0 where no venue is made
+-- the words of a fresh venue, 0 but for the close and the number of the layout; all 0 where no venue is made
+abbrev pub freshWords : ℕ → List ℕ
+freshWords close = set (set (replicate venueWords 0) 1 close) layoutWord layoutNumber
+
 unfoldable pub openedWords : ℕ → List ℕ
-openedWords close = pick (legal close) (0 ∷ close ∷ replicate 3342 0) (replicate venueWords 0)
+openedWords close = pick (legal close) (freshWords close) (replicate venueWords 0)
 
 pub record Opens (close : ℕ) (answer : OpenAnswer) (words : List ℕ) : Type 0 where
   pub answers : outcomeOfOpen answer words ≡ opening close

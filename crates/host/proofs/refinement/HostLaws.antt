@@ -13,7 +13,7 @@ use borrow.Author.Tests.{le-leb, lt-leb}
 use Rattle.numbers.specs.Tests.{pick, All}
 use Rattle.numbers.specs.Answers.{Outcome, gives, refuses, Read}
 use Rattle.numbers.specs.SevenBit.{IsByte}
-use Rattle.numbers.proofs.TestLaws.{by-test}
+use Rattle.numbers.proofs.TestLaws.{by-test, T-true}
 use Rattle.prices.specs.Prices.{legal}
 use Rattle.book.specs.rules.Words.{venueWords, isBook}
 use Rattle.engine.specs.declared.Event.{Event}
@@ -32,7 +32,7 @@ use Rattle.engine.specs.steps.Memory.{refusalIn}
 use Rattle.engine.specs.rules.Layout.{venueOf}
 use Rattle.engine.specs.claims.Calls.{refusalNumber, openedWords, Opens, countOf, Applied}
 use Rattle.host.specs.rules.Host.{hostAnswer, openCount, hostOpening, wordsOpened, HostOpened, CountFits, EventApplied, HostApplied, Demand3OfHosts, NoHostGets16, EqualHostReports}
-use Rattle.engine.proofs.refinement.OpeningLaws.{opened-book-with, opened-venue-with}
+use Rattle.engine.proofs.refinement.OpeningLaws.{fresh-length, opened-book-with, opened-venue-with}
 use Rattle.engine.proofs.refinement.ApplyLaws.{step-by-refusal, not-refused}
 use Rattle.engine.proofs.bytes.BoundLaws.{reports-room}
 use Rattle.engine.proofs.bytes.RecordLaws.{record-unique}
@@ -74,7 +74,7 @@ front-more w₀ w from k e l h =
 opened-length : (close : ℕ) → length (openedWords close) ≡ venueWords
 unfolding openedWords
 opened-length close =
-    by-test (λ (w : List ℕ). length w ≡ venueWords) (legal close) (λ t. omega (arith, length-replicate {A = ℕ} 3342 0)) (λ t. length-replicate {A = ℕ} venueWords 0)
+    by-test (λ (w : List ℕ). length w ≡ venueWords) (legal close) (λ t. fresh-length close) (λ t. length-replicate {A = ℕ} venueWords 0)
 
 pub opens-length : {close : ℕ} {answer : OpenAnswer} {words : List ℕ} → Opens close answer words → length words ≡ venueWords
 opens-length {close} o = ap length (o .is) ∙ opened-length close
@@ -143,7 +143,7 @@ opened-fresh {w} {w₀} {close} h =
     Known o = 0 ≡ hostAnswer o → w₀ ≡ wordsOpened w close o → FreshWords w₀ close
 
     known : T (legal close) → w₀ ≡ openedWords close ++ drop venueWords w → FreshWords w₀ close
-    known u l = record { legal = u; layout = rw l (opened-book-with close (drop venueWords w)); venue = rw l (opened-venue-with close (drop venueWords w) u) }
+    known u l = record { legal = u; layout = rw l (opened-book-with close (drop venueWords w) u); venue = rw l (opened-venue-with close (drop venueWords w) u) }
 
 pub demand3-of-hosts : Demand3OfHosts
 demand3-of-hosts w close w₀ h = let f = opened-fresh h in demand3-from close (f .legal) (f .layout) (f .venue)
@@ -155,4 +155,4 @@ pub equal-host-reports : EqualHostReports
 equal-host-reports close w v w₀ v₀ h k cs ds w′ v′ c d =
     let f = opened-fresh h in
     let g = opened-fresh k in
-    both (f .layout) (g .layout) (f .venue ∙ sym (g .venue)) c d
+    both (T-true _ (f .layout) ∙ sym (T-true _ (g .layout))) (f .venue ∙ sym (g .venue)) c d

@@ -11,6 +11,9 @@ is-legal-requires c κs = search needs
 array-write-words : tie.Need-array-write-words
 array-write-words c = search needs
 
+array-write-words-2 : tie.Need-array-write-words-2
+array-write-words-2 c = search needs
+
 returns : tie.Need-returns
 returns c = opens-yes (c .before .before .args .close) (sym (c .before .is-legal .ensures) ∙ c .if1 .taken)
 
@@ -18,4 +21,4 @@ returns-2 : tie.Need-returns-2
 returns-2 c = opens-no (c .before .before .args .close) (sym (c .before .is-legal .ensures) ∙ c .if1 .left)
 
 pub open-spec : {M : Type 1} → statement M
-open-spec = tie.close (tie.spec is-legal-requires array-write-words returns returns-2)
+open-spec = tie.close (tie.spec is-legal-requires array-write-words array-write-words-2 returns returns-2)
