@@ -4,13 +4,16 @@ It sends events to the venue and prints, from the reports alone, what becomes of
 Build and run, from the repository's root:
 rt staticlib host && cc -shared -o target/libvenue.so -Wl,--whole-archive target/staticlib/libhost.a -Wl,--no-whole-archive && python3 examples/study.py
 """
+import re
 from ctypes import CDLL, POINTER, c_size_t, c_uint8, c_uint32
 
 ENTRY, CANCEL, BID, TAPE, DAY_END = 1, 2, 3, 4, 5
 
 # include/venue.h says what the calls take and answer
-VENUE_WORDS = 3344
-VENUE_REPORT_BYTES = 16384
+with open("include/venue.h") as header:
+    DEFINED = dict(re.findall(r"#define (\w+) (\d+)", header.read()))
+VENUE_WORDS = int(DEFINED["VENUE_WORDS"])
+VENUE_REPORT_BYTES = int(DEFINED["VENUE_REPORT_BYTES"])
 venue = CDLL("target/libvenue.so")
 venue.venue_open.argtypes = [POINTER(c_uint32), c_size_t, c_uint32]
 venue.venue_open.restype = c_uint32

@@ -17,6 +17,9 @@ extern "C" {
    host's to copy and to store, and nobody's to change. */
 #define VENUE_WORDS 3344
 
+/* The number of the layout of these words. venue_open writes it, and words that were stored under another layout are refused with 16. */
+#define VENUE_LAYOUT 1
+
 /* The least length of a report buffer: the reports of an event always fit it. */
 #define VENUE_REPORT_BYTES 16384
 
@@ -49,7 +52,7 @@ uint32_t venue_open(uint32_t *words, size_t words_length, uint32_t close);
    10  a number of the record is bad: a tenth byte above 1, or a last group 0 after another
    11  the kind isn't 1 to 5
    12  a field is above 4,294,967,295
-   16  the words aren't a venue. What venue_open and venue_apply leave always is one
+   16  the words aren't a venue. Those that venue_open made one stay one through every call of venue_apply, whatever it answers
     1  the buffer has fewer than VENUE_REPORT_BYTES bytes
     2  the venue has accepted 16,777,215 events, the most it takes
     3  a price, a bid or a close that isn't legal

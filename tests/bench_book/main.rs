@@ -4,7 +4,19 @@ use std::collections::HashSet;
 use std::hint::black_box;
 use std::time::Instant;
 
-const WORDS: usize = 3344;
+// A number that include/venue.h defines, as ./run passes it on.
+const fn number(digits: &str) -> usize {
+    let mut value = 0;
+    let mut at = 0;
+    while at < digits.len() {
+        value = 10 * value + (digits.as_bytes()[at] - b'0') as usize;
+        at += 1;
+    }
+    value
+}
+
+const WORDS: usize = number(env!("VENUE_WORDS"));
+const LAYOUT_AT: usize = 15;
 const LAST: u32 = 1_000_000;
 
 extern "C" {
@@ -175,6 +187,7 @@ fn show(name: &str, ours: f64, plain: f64) {
 fn main() {
     for k in [8u32, 64, 250] {
         let mut words = Words(vec![0; WORDS]);
+        words.0[LAYOUT_AT] = number(env!("VENUE_LAYOUT")) as u32;
         let mut plain = Plain(Vec::with_capacity(256));
         let mut seed: u64 = 12345;
         for i in 0..k {

@@ -2,16 +2,30 @@
 
 use crate::model::{Order, Refusal, Venue, Watch, PLACES};
 
-const HEADER_WORDS: usize = 16;
-const ORDER_WORDS: usize = 13;
-
-/// The place of the count of orders.
-pub const COUNT_AT: usize = 0;
-/// The flags of an order: adjusted, used, clear.
-pub const FLAGS: usize = 3;
+/// A number that include/venue.h defines, as build.rs passes it on.
+const fn number(digits: &str) -> usize {
+    let mut value = 0;
+    let mut at = 0;
+    while at < digits.len() {
+        value = 10 * value + (digits.as_bytes()[at] - b'0') as usize;
+        at += 1;
+    }
+    value
+}
 
 /// The words of a venue; a run may be longer.
-pub const VENUE_WORDS: usize = HEADER_WORDS + PLACES * ORDER_WORDS;
+pub const VENUE_WORDS: usize = number(env!("VENUE_WORDS"));
+/// The number of the layout, the last word of the header.
+pub const LAYOUT: u32 = number(env!("VENUE_LAYOUT")) as u32;
+
+const HEADER_WORDS: usize = 16;
+const ORDER_WORDS: usize = (VENUE_WORDS - HEADER_WORDS) / PLACES;
+
+/// The places of the count of orders and of the layout's number.
+pub const COUNT_AT: usize = 0;
+pub const LAYOUT_AT: usize = HEADER_WORDS - 1;
+/// The flags of an order: adjusted, used, clear.
+pub const FLAGS: usize = 3;
 
 // The calls of include/venue.h; a slice is a pointer and a length.
 extern "C" {
@@ -98,7 +112,8 @@ pub fn answer_of(answer: Result<usize, Refusal>) -> u32 {
     }
 }
 
-/// The layout of the header, in whose first word the count of orders stands.
+/// The layout of the header, in whose first word the count of orders stands, and
+/// in whose last the number of the layout.
 fn header_of(venue: &Venue) -> [u32; HEADER_WORDS] {
     let fields = [
         venue.orders.len() as u32,
@@ -111,6 +126,7 @@ fn header_of(venue: &Venue) -> [u32; HEADER_WORDS] {
     ];
     let mut words = [0; HEADER_WORDS];
     words[..fields.len()].copy_from_slice(&fields);
+    words[LAYOUT_AT] = LAYOUT;
     words
 }
 
