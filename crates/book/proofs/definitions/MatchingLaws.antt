@@ -70,7 +70,7 @@ pub meeting-distinct : (w o : Order) (os : List Order) → List·Memᴰ o os →
 unfolding meeting
 meeting-distinct w o os m d = afterTrade-differ (min (w .shares) (o .shares)) m d idOf refl d
 
-pub meeting-all : (P : Order → Type 0) → KeptReduced P → (w o : Order) (os : List Order) → List·Memᴰ o os → Distinct os → P w → All P os → P ((meeting w o os) .rest) × All P ((meeting w o os) .orders)
+pub meeting-all : (P : Order → Type 0) → KeptReduced P → (w o : Order) (os : List Order) → List·Memᴰ o os → Distinct os → P w → All P os → P ((meeting w o os) .left) × All P ((meeting w o os) .orders)
 unfolding meeting
 meeting-all P s w o os m d p h =
     let q : ℕ = min (w .shares) (o .shares) in
@@ -80,7 +80,7 @@ meeting-all P s w o os m d p h =
 abbrev Within : ℕ → Order → List Order → Type 0
 Within n w os = (w.shares ≡ 0) ⊎ (length os ≤ n)
 
-meeting-within : (n : ℕ) (w o : Order) (os : List Order) → List·Memᴰ o os → Distinct os → Within (suc n) w os → Within n ((meeting w o os) .rest) ((meeting w o os) .orders)
+meeting-within : (n : ℕ) (w o : Order) (os : List Order) → List·Memᴰ o os → Distinct os → Within (suc n) w os → Within n ((meeting w o os) .left) ((meeting w o os) .orders)
 unfolding meeting
 meeting-within n w o os m d z = go z (decLe (o .shares) (w .shares))
   where
@@ -95,19 +95,19 @@ module _ {A : Type 0} (read : A → Execution → A) (I : Order → List Order �
   -- I is kept by each meeting, whose execution is read
   abbrev pub KeptByMeeting : Type 0
   KeptByMeeting =
-      (w o : Order) (os : List Order) (a : A) → Reached w os (some o) → I w os a → I ((meeting w o os) .rest) ((meeting w o os) .orders) (read a ((meeting w o os) .execution))
+      (w o : Order) (os : List Order) (a : A) → Reached w os (some o) → I w os a → I ((meeting w o os) .left) ((meeting w o os) .orders) (read a ((meeting w o os) .execution))
 
-  upTo-keeps : KeptByMeeting → (n : ℕ) (w : Order) (os : List Order) (a : A) → I w os a → let m : Matched = matchingUpTo n w os in I (m .rest) (m .orders) (foldl read a (m .executions))
+  upTo-keeps : KeptByMeeting → (n : ℕ) (w : Order) (os : List Order) (a : A) → I w os a → let m : Matched = matchingUpTo n w os in I (m .left) (m .orders) (foldl read a (m .executions))
   unfolding matchingUpTo matchingWith
   upTo-keeps k zero w os a i = i
   upTo-keeps k (suc n) w os a i = go (counterparty w os) (counterparty-reached w os) (upTo-keeps k n)
     where
-      go : (t : Option Order) → Reached w os t → ((w : Order) (os : List Order) (a : A) → I w os a → let m : Matched = matchingUpTo n w os in I (m .rest) (m .orders) (foldl read a (m .executions))) → let m : Matched = matchingWith (matchingUpTo n) t w os in I (m .rest) (m .orders) (foldl read a (m .executions))
+      go : (t : Option Order) → Reached w os t → ((w : Order) (os : List Order) (a : A) → I w os a → let m : Matched = matchingUpTo n w os in I (m .left) (m .orders) (foldl read a (m .executions))) → let m : Matched = matchingWith (matchingUpTo n) t w os in I (m .left) (m .orders) (foldl read a (m .executions))
       go none r f = i
       go (some o) r f = f _ _ _ (k w o os a r i)
 
   -- what each meeting keeps, matching keeps, whoever reads the executions
-  pub matching-keeps : KeptByMeeting → (w : Order) (os : List Order) (a : A) → I w os a → let m : Matched = matching w os in I (m .rest) (m .orders) (foldl read a (m .executions))
+  pub matching-keeps : KeptByMeeting → (w : Order) (os : List Order) (a : A) → I w os a → let m : Matched = matching w os in I (m .left) (m .orders) (foldl read a (m .executions))
   unfolding matching
   matching-keeps k w os a i = upTo-keeps k (length os) w os a i
 
@@ -115,7 +115,7 @@ module _ {A : Type 0} (read : A → Execution → A) (I : Order → List Order �
 abbrev pub unread : Unit {0} → Execution → Unit {0}
 unread a x = a
 
-pub matching-all : (P : Order → Type 0) → KeptReduced P → (w : Order) (os : List Order) → Distinct os → P w → All P os → let m : Matched = matching w os in Distinct (m .orders) × P (m .rest) × All P (m .orders)
+pub matching-all : (P : Order → Type 0) → KeptReduced P → (w : Order) (os : List Order) → Distinct os → P w → All P os → let m : Matched = matching w os in Distinct (m .orders) × P (m .left) × All P (m .orders)
 matching-all P s w os d p h =
     matching-keeps
     unread
@@ -129,7 +129,7 @@ matching-all P s w os d p h =
 -- matching ends where no shares remain or nobody is reached
 
 abbrev Ends : Matched → Type 0
-Ends m = Reached (m .rest) (m .orders) none
+Ends m = Reached (m .left) (m .orders) none
 
 upTo-ends : (n : ℕ) (w : Order) (os : List Order) → Distinct os → Within n w os → Ends (matchingUpTo n w os)
 unfolding matchingUpTo matchingWith
@@ -142,17 +142,17 @@ upTo-ends (suc n) w os d z = go (counterparty w os) (counterparty-reached w os) 
     go none r f = r
     go (some o) r f = f _ _ (meeting-distinct w o os (r .0) d) (meeting-within n w o os (r .0) d z)
 
-pub matching-ends : (w : Order) (os : List Order) → Distinct os → let m : Matched = matching w os in Reached (m .rest) (m .orders) none
+pub matching-ends : (w : Order) (os : List Order) → Distinct os → let m : Matched = matching w os in Reached (m .left) (m .orders) none
 unfolding matching
 matching-ends w os d = upTo-ends (length os) w os d (inr (omega arith))
 
 -- matching, one meeting at a time: how many more are allowed doesn't matter while it is enough
 
 abbrev unmatched : Order → List Order → Matched
-unmatched w os = record { executions = []; rest = w; orders = os }
+unmatched w os = record { executions = []; left = w; orders = os }
 
 abbrev onceMore : Execution → Matched → Matched
-onceMore x m = record { executions = x ∷ m.executions; rest = m.rest; orders = m.orders }
+onceMore x m = record { executions = x ∷ m.executions; left = m.left; orders = m.orders }
 
 none-within : (w o : Order) (os : List Order) → Distinct os → Within zero w os → Reached w os (some o) → ⊥
 none-within w o os d (inl e) r = omega (arith, r .2)
@@ -179,7 +179,7 @@ upTo-same (suc m) (suc n) w os d y z = go (counterparty w os) (counterparty-reac
         ap (onceMore ((meeting w o os) .execution)) (f _ _ (meeting-distinct w o os (r .0) d) (meeting-within m w o os (r .0) d y) (meeting-within n w o os (r .0) d z))
 
 -- matching where there is no counterparty
-pub matching-none : (w : Order) (os : List Order) → counterparty w os ≡ none → matching w os ≡ record { executions = []; rest = w; orders = os }
+pub matching-none : (w : Order) (os : List Order) → counterparty w os ≡ none → matching w os ≡ record { executions = []; left = w; orders = os }
 unfolding matching matchingUpTo matchingWith
 matching-none w os e = go (length os)
   where
@@ -188,14 +188,14 @@ matching-none w os e = go (length os)
     go (suc n) = rw e
 
 -- matching where there is one: their meeting, then matching with what it leaves
-pub matching-some : (w o : Order) (os : List Order) → Distinct os → counterparty w os ≡ some o → let x : Meeting = meeting w o os in let m : Matched = matching (x .rest) (x .orders) in matching w os ≡ record { executions = x.execution ∷ m.executions; rest = m.rest; orders = m.orders }
+pub matching-some : (w o : Order) (os : List Order) → Distinct os → counterparty w os ≡ some o → let x : Meeting = meeting w o os in let m : Matched = matching (x .left) (x .orders) in matching w os ≡ record { executions = x.execution ∷ m.executions; left = m.left; orders = m.orders }
 unfolding matching matchingUpTo matchingWith
 matching-some w o os d e = go (length os) (omega arith)
   where
     r : Reached w os (some o)
     r = subst (Reached w os) e (counterparty-reached w os)
 
-    go : (n : ℕ) → length os ≤ n → matchingUpTo n w os ≡ onceMore ((meeting w o os) .execution) (matching ((meeting w o os) .rest) ((meeting w o os) .orders))
+    go : (n : ℕ) → length os ≤ n → matchingUpTo n w os ≡ onceMore ((meeting w o os) .execution) (matching ((meeting w o os) .left) ((meeting w o os) .orders))
     go zero l = absurd (none-within w o os d (inr l) r)
     go (suc n) l =
         rw e (ap (onceMore ((meeting w o os) .execution)) (upTo-same n (length ((meeting w o os) .orders)) _ _ (meeting-distinct w o os (r .0) d) (meeting-within n w o os (r .0) d (inr l)) (inr (omega arith))))

@@ -15,6 +15,6 @@ unfolding execution
 execution-by P w o q f g = by-test P (isBuy w) f g
 
 -- the smaller amount trades, and both orders and the execution say so
-pub meeting-known : (w o : Order) (os : List Order) → let q : ℕ = min (w .shares) (o .shares) in meeting w o os ≡ record { execution = execution w o q; rest = reduced q w; orders = afterTrade o q os }
+pub meeting-known : (w o : Order) (os : List Order) → let q : ℕ = min (w .shares) (o .shares) in meeting w o os ≡ record { execution = execution w o q; left = reduced q w; orders = afterTrade o q os }
 unfolding meeting
 meeting-known w o os = refl

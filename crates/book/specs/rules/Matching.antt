@@ -64,30 +64,30 @@ afterTrade o q os = pick (leb (o .shares) q) (without (o .id) os) (insert (reduc
 -- one meeting of the working order w with the resting order o: what happens, and what is left of w and of the book
 pub record Meeting : Type 0 where
   pub execution : Execution
-  pub rest : Order
+  pub left : Order
   pub orders : List Order
 
 unfoldable pub meeting : Order → Order → List Order → Meeting
 meeting w o os =
     let q : ℕ = min (w .shares) (o .shares) in
-    record { execution = execution w o q; rest = reduced q w; orders = afterTrade o q os }
+    record { execution = execution w o q; left = reduced q w; orders = afterTrade o q os }
 
 pub record Matched : Type 0 where
   pub executions : List Execution
-  pub rest : Order
+  pub left : Order
   pub orders : List Order
 
 -- further is matching with what a meeting leaves
 unfoldable pub matchingWith : (Order → List Order → Matched) → Option Order → Order → List Order → Matched
-matchingWith further none w os = record { executions = []; rest = w; orders = os }
+matchingWith further none w os = record { executions = []; left = w; orders = os }
 matchingWith further (some o) w os =
     let x : Meeting = meeting w o os in
-    let m : Matched = further (x .rest) (x .orders) in
-    record { executions = x.execution ∷ m.executions; rest = m.rest; orders = m.orders }
+    let m : Matched = further (x .left) (x .orders) in
+    record { executions = x.execution ∷ m.executions; left = m.left; orders = m.orders }
 
 -- at most n meetings
 unfoldable pub matchingUpTo : ℕ → Order → List Order → Matched
-matchingUpTo zero w os = record { executions = []; rest = w; orders = os }
+matchingUpTo zero w os = record { executions = []; left = w; orders = os }
 matchingUpTo (suc n) w os = matchingWith (matchingUpTo n) (counterparty w os) w os
 
 -- each meeting takes an order out of the book or the last shares of w, so as many as there are orders are enough

@@ -55,7 +55,7 @@ Found l r o = IsAt l r (length l) o
 abbrev pub considered : Order → List Order → Position → ℕ → Option Order
 considered w l r i = pick (reaches w (getD l i emptyOrder)) (betterOf w (orderIn l r) (getD l i emptyOrder)) (orderIn l r)
 
--- no order before position r is reached by w, and the one there is, if there is one
+-- the best order that w reaches is the best of those from position r on, and the one at r is reached, if there is one
 pub record FirstReached (w : Order) (l : List Order) (r : ℕ) : Type 0 where
   pub inside : r ≤ length l
   pub rest : best w l ≡ bestFrom w none (drop r l)

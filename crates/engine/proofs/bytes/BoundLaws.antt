@@ -95,7 +95,7 @@ oneMore-all a [] = omega arith
 oneMore-all a (x ∷ xs) = omega (arith, oneMore-all (a + 1) xs)
 
 module _ {n s : ℕ} where
-  meeting-count : (w o : Order) (os : List Order) → Reached w os (some o) → SoundWork n s w os → let x = meeting w o os in 1 + length (x .orders) + unfilled (x .rest) ≤ length os + unfilled w
+  meeting-count : (w o : Order) (os : List Order) → Reached w os (some o) → SoundWork n s w os → let x = meeting w o os in 1 + length (x .orders) + unfilled (x .left) ≤ length os + unfilled w
   meeting-count w o os r g =
       let q : ℕ = min (w .shares) (o .shares) in
       let d : Distinct os = book-distinct (g .book) in
@@ -104,7 +104,7 @@ module _ {n s : ℕ} where
         | no l ↦ omega (arith, r .2, afterTrade-length q (r .0) d)
       ]
 
-  matching-count : (w : Order) (os : List Order) → SoundWork n s w os → let m : Matched = matching w os in length (m .executions) + length (m .orders) + unfilled (m .rest) ≤ length os + unfilled w
+  matching-count : (w : Order) (os : List Order) → SoundWork n s w os → let m : Matched = matching w os in length (m .executions) + length (m .orders) + unfilled (m .left) ≤ length os + unfilled w
   matching-count w os g =
       let r = matching-keeps oneMore Kept (λ x o l a h k. (meeting-sound (h .0) (k .0), omega (arith, k .1, meeting-count x o l h (k .0)))) w os 0 (g, omega arith) in
       omega (arith, r .1, oneMore-all 0 (matching w os .executions))
@@ -126,7 +126,7 @@ work-most : {n s : ℕ} (w : Order) (os : List Order) → SoundWork n s w os →
 unfolding work
 work-most w os g =
     let m : Matched = matching w os in
-    omega (arith, matching-count w os g, most-executed (m .executions), afterRemainder-most (remainder (m .rest)) (m .rest) (m .orders) (remainder-known (m .rest)), most-append (map executed (m .executions)) (afterRemainder (remainder (m .rest)) (m .rest) (m .orders) .reports))
+    omega (arith, matching-count w os g, most-executed (m .executions), afterRemainder-most (remainder (m .left)) (m .left) (m .orders) (remainder-known (m .left)), most-append (map executed (m .executions)) (afterRemainder (remainder (m .left)) (m .left) (m .orders) .reports))
 
 -- the pass
 

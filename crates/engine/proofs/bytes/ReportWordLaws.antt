@@ -72,7 +72,7 @@ module _ {n s : ℕ} (i : Word n) where
       (λ t. (omega arith, (h .id, (k .id, (k .price, (omega (arith, h .shares), tt))))))
       (λ t. (omega arith, (k .id, (h .id, (k .price, (omega (arith, h .shares), tt)))))))
 
-  matching-words : (w : Order) (os : List Order) → SoundWork n s w os → let m : Matched = matching w os in SoundWork n s (m .rest) (m .orders) × All ReportWords (map executed (m .executions))
+  matching-words : (w : Order) (os : List Order) → SoundWork n s w os → let m : Matched = matching w os in SoundWork n s (m .left) (m .orders) × All ReportWords (map executed (m .executions))
   matching-words w os g =
       let r = matching-keeps onExecution Kept (λ x o l a h k. (meeting-sound (h .0) (k .0), (meeting-words x o l (h .0) (k .0), k .1))) w os [] (g, tt) in
       (r .0, onExecution-all [] (matching w os .executions) (r .1) .1)
@@ -91,7 +91,7 @@ module _ {n s : ℕ} (i : Word n) where
   work-words w os g =
       let m : Matched = matching w os in
       let r = matching-words w os g in
-      all-append ReportWords (map executed (m .executions)) _ (r .1) (afterRemainder-words (remainder (m .rest)) (m .rest) (m .orders) (remainder-known (m .rest)) (r .0 .works))
+      all-append ReportWords (map executed (m .executions)) _ (r .1) (afterRemainder-words (remainder (m .left)) (m .left) (m .orders) (remainder-known (m .left)) (r .0 .works))
 
 -- the pass
 

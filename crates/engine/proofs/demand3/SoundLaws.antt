@@ -103,7 +103,7 @@ remainder-known w =
     (λ t. by-test (RemainderOf w) _ (λ r. (omega tests, omega arith)) (λ r. by-test (RemainderOf w) _ (λ x. (omega tests, omega arith)) (λ x. (omega tests, neqb (w .life) 1 r))))
 
 module _ {n s : ℕ} {w : Order} {os : List Order} where
-  pub meeting-sound : {o : Order} → List·Memᴰ o os → SoundWork n s w os → SoundWork n s ((meeting w o os) .rest) ((meeting w o os) .orders)
+  pub meeting-sound : {o : Order} → List·Memᴰ o os → SoundWork n s w os → SoundWork n s ((meeting w o os) .left) ((meeting w o os) .orders)
   meeting-sound {o} m g =
       let q : ℕ = min (w .shares) (o .shares) in
       let d : Distinct os = book-distinct (g .book) in
@@ -133,7 +133,7 @@ pub work-sound : {n s : ℕ} (w : Order) (os : List Order) → SoundWork n s w o
 unfolding work
 work-sound {n} {s} w os g =
     let m : Matched = matching w os in
-    afterRemainder-sound (remainder (m .rest)) (remainder-known (m .rest)) (matching-keeps unread (λ x l a. SoundWork n s x l) (λ x o l a r h. meeting-sound (r .0) h) w os tt g)
+    afterRemainder-sound (remainder (m .left)) (remainder-known (m .left)) (matching-keeps unread (λ x l a. SoundWork n s x l) (λ x o l a r h. meeting-sound (r .0) h) w os tt g)
 
 -- where the pass sends an order
 

@@ -81,7 +81,7 @@ module _ (m : Market) (n : ℕ) (w o : Order) (os : List Order) (c : Tallies) (r
   buyer-lawful : (z : Order) → TalliesKnow n c z → T (isBuy z) → FilledLawfully (fillOf m c (z .id) (o .price))
   buyer-lawful z h t p e = absurd (omega (tests, h .mark))
 
-  meeting-keeps : WhileWorking m n ((meeting w o os) .rest) ((meeting w o os) .orders) (readExecution m c ((meeting w o os) .execution))
+  meeting-keeps : WhileWorking m n ((meeting w o os) .left) ((meeting w o os) .orders) (readExecution m c ((meeting w o os) .execution))
   meeting-keeps =
       let q : ℕ = min (w .shares) (o .shares) in
       rw
@@ -149,7 +149,7 @@ pub work-keeps : (m : Market) (n : ℕ) (w : Order) (os : List Order) (c : Talli
 unfolding work
 work-keeps m n w os c i =
     let x : Matched = matching w os in
-    rw (foldl-append, foldl-map) (afterRemainder-keeps m n (remainder (x .rest)) (x .rest) (x .orders) (foldl (readExecution m) c (x .executions)) (remainder-fits (x .rest) (x .orders) (matching-ends w os (i .tallies .distinct .1))) (matching-keeps (readExecution m) (WhileWorking m n) (meeting-keeps m n) w os c i))
+    rw (foldl-append, foldl-map) (afterRemainder-keeps m n (remainder (x .left)) (x .left) (x .orders) (foldl (readExecution m) c (x .executions)) (remainder-fits (x .left) (x .orders) (matching-ends w os (i .tallies .distinct .1))) (matching-keeps (readExecution m) (WhileWorking m n) (meeting-keeps m n) w os c i))
 
 -- what the shares of an order don't touch is kept
 pub work-all : (P : Order → Type 0) → KeptReduced P → (w : Order) (os : List Order) → Distinct os → P w → All P os → All P ((work w os) .orders)

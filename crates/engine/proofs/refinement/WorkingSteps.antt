@@ -72,7 +72,7 @@ module _ (w : List ℕ) (o x : Order) (i q : ℕ) (ordered : Ordered w) (h : i <
 
 -- a meeting lowers the orders and the shares taken together
 
-meeting-less : (o x : Order) (os : List Order) → Reached o os (some x) → Distinct os → length (meeting o x os .orders) + meeting o x os .rest .shares < length os + o .shares
+meeting-less : (o x : Order) (os : List Order) → Reached o os (some x) → Distinct os → length (meeting o x os .orders) + meeting o x os .left .shares < length os + o .shares
 unfolding meeting
 meeting-less o x os r d = go (decLe (x .shares) (o .shares))
   where
@@ -98,7 +98,7 @@ meets-enters {w} {w′} {o = o} {x = x} {rest = rest} k member m =
 pub record Matching (w₀ w b₀ b : List ℕ) (at n : ℕ) (o₀ o : Order) : Type 0 where
   pub enters : MayEnter o w
   pub orders : matching o₀ (resting w₀) .orders ≡ matching o (resting w) .orders
-  pub rests : matching o₀ (resting w₀) .rest ≡ matching o (resting w) .rest
+  pub rests : matching o₀ (resting w₀) .left ≡ matching o (resting w) .left
   pub way : Underway w₀ w b₀ b at n (executionReports (matching o₀ (resting w₀))) (executionReports (matching o (resting w)))
 
 pub matching-start : (w b : List ℕ) (at : ℕ) (o : Order) → MayEnter o w → Matching w w b b at at o o
@@ -109,7 +109,7 @@ matching-end {w = w} {o = o} f e =
     let z = matching-none o (resting w) e in
     record {
       does = does-as (sym (f .orders ∙ ap (λ (m : Matched). m .orders) z)) refl (underway-end (underway-as (ap executionReports z) (f .way)));
-      rests = sym (f .rests ∙ ap (λ (m : Matched). m .rest) z);
+      rests = sym (f .rests ∙ ap (λ (m : Matched). m .left) z);
       enters = f .enters;
     }
 
@@ -122,15 +122,15 @@ module _ {w₀ w b₀ b : List ℕ} {at n : ℕ} {o₀ o : Order} (x : Order) (f
   later os rest =
       record {
         executions = meeting o x (resting w) .execution ∷ matching rest os .executions;
-        rest = matching rest os .rest;
+        left = matching rest os .left;
         orders = matching rest os .orders;
       }
 
-  first : matching o (resting w) ≡ later (meeting o x (resting w) .orders) (meeting o x (resting w) .rest)
+  first : matching o (resting w) ≡ later (meeting o x (resting w) .orders) (meeting o x (resting w) .left)
   first = matching-some o x (resting w) (ordered-distinct (f .enters .ordered)) found
 
   pub matching-room : Room b₀ at (executionReports (matching o₀ (resting w₀))) → Room b n (executed (meeting o x (resting w) .execution) ∷ [])
-  matching-room room = underway-room _ (executionReports (matching (meeting o x (resting w) .rest) (meeting o x (resting w) .orders))) room (underway-as (ap executionReports first) (f .way))
+  matching-room room = underway-room _ (executionReports (matching (meeting o x (resting w) .left) (meeting o x (resting w) .orders))) room (underway-as (ap executionReports first) (f .way))
 
   module _ {w′ b′ : List ℕ} {n′ : ℕ} {rest : Order} (m : Meets w w′ b b′ n (meeting o x (resting w)) rest n′) where
     next : matching o (resting w) ≡ later (resting w′) rest
@@ -141,7 +141,7 @@ module _ {w₀ w b₀ b : List ℕ} {at n : ℕ} {o₀ o : Order} (x : Order) (f
         record {
           enters = meets-enters (f .enters) (reached .0) m;
           orders = f .orders ∙ ap (λ (z : Matched). z .orders) next;
-          rests = f .rests ∙ ap (λ (z : Matched). z .rest) next;
+          rests = f .rests ∙ ap (λ (z : Matched). z .left) next;
           way = underway-then (executed (meeting o x (resting w) .execution) ∷ []) (executionReports (matching rest (resting w′))) room (underway-as (ap executionReports next) (f .way)) (m .does);
         }
 
@@ -166,10 +166,10 @@ pub match-room : (w b : List ℕ) (at : ℕ) (o : Order) → Room b at (work o (
 unfolding work
 match-room w b at o h =
     let m : Matched = matching o (resting w) in
-    room-first b at (executionReports m) (restedOrCancelled (m .rest) (m .orders) .reports) h
+    room-first b at (executionReports m) (restedOrCancelled (m .left) (m .orders) .reports) h
 
 module _ {w w₁ b b₁ : List ℕ} {at n : ℕ} {o rest : Order} (f : Matches w w₁ b b₁ at o rest n) (room : Room b at (work o (resting w) .reports)) where
-  remainder-same : restedOrCancelled rest (resting w₁) ≡ restedOrCancelled (matching o (resting w) .rest) (matching o (resting w) .orders)
+  remainder-same : restedOrCancelled rest (resting w₁) ≡ restedOrCancelled (matching o (resting w) .left) (matching o (resting w) .orders)
   remainder-same = ap₂ restedOrCancelled (f .rests) (f .does .orders)
 
   work-reports : work o (resting w) .reports ≡ executionReports (matching o (resting w)) ++ restedOrCancelled rest (resting w₁) .reports

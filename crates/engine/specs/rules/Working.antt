@@ -61,5 +61,5 @@ afterRemainder Rests w os = record { reports = []; orders = insert w os }
 unfoldable pub work : Order → List Order → Worked
 work w os =
     let m : Matched = matching w os in
-    let r : Worked = afterRemainder (remainder (m .rest)) (m .rest) (m .orders) in
+    let r : Worked = afterRemainder (remainder (m .left)) (m .left) (m .orders) in
     record { reports = map executed (m .executions) ++ r.reports; orders = r.orders }

@@ -31,7 +31,7 @@ pub record MayEnter (o : Order) (w : List ℕ) : Type 0 where
 -- one meeting, done: rest is left of the working order
 pub record Meets (w w′ b b′ : List ℕ) (at : ℕ) (x : Meeting) (rest : Order) (end : ℕ) : Type 0 where
   pub does : Does w w′ b b′ at (x .orders) (executed (x .execution) ∷ []) end
-  pub rests : rest ≡ x .rest
+  pub rests : rest ≡ x .left
 
 -- the reports of a working order's executions
 abbrev pub executionReports : Matched → List Report
@@ -40,7 +40,7 @@ executionReports m = map executed (m .executions)
 -- the working order o has matched; rest is left of it, and may enter
 pub record Matches (w w′ b b′ : List ℕ) (at : ℕ) (o rest : Order) (end : ℕ) : Type 0 where
   pub does : Does w w′ b b′ at (matching o (resting w) .orders) (executionReports (matching o (resting w))) end
-  pub rests : rest ≡ matching o (resting w) .rest
+  pub rests : rest ≡ matching o (resting w) .left
   pub enters : MayEnter rest w′
 
 -- what becomes of the remainder o
