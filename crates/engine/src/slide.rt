@@ -16,13 +16,12 @@ ghost use mathlib.Core.Bool.{_&&_, not};
 ghost use lib.Dec.{T, leb};
 ghost use lib.ListN.{length, getD};
 ghost use Rattle.prices.specs.Prices.{isBid};
-ghost use Rattle.book.specs.rules.Orders.{without};
 ghost use Rattle.book.specs.rules.Words.{emptyOrder, resting};
 ghost use Rattle.book.specs.steps.BookSteps.{Book};
-ghost use Rattle.engine.specs.rules.Working;
+ghost use Rattle.engine.specs.declared.Move.the-variants.{Reprice};
 ghost use Rattle.engine.specs.rules.Pass.{displayedClear, moveDown, slideOnce, slideDown, moveOf, atNewPrice, afterMove, passOver};
 ghost use Rattle.engine.specs.steps.Memory.{Ordered, Room, Does, DoesEffect};
-ghost use Rattle.engine.specs.steps.Steps.{moveInPass, repricedReports, turnOf, idsOf, StartsWithIds};
+ghost use Rattle.engine.specs.steps.Steps.{moveInPass, turnOf, idsOf, StartsWithIds};
 
 // Whether an order is displayed and clear.
 fn displayed_clear(o: Order) -> bool
@@ -127,12 +126,22 @@ fn at_new_price(price: u32, stamp: u32, used: bool, o: Order) -> Order
     r
 }
 
-// The order x, that was at position i, works at its new price.
-fn reprice(w: &mut [u32], reports: &mut [u8], at: usize, i: usize, x: Order) -> usize
-    requires { ⌜ Ordered (now w) × (i < length (resting (now w))) × (x .id ≡ (getD (resting (now w)) i emptyOrder) .id) ⌝ }
-    requires { ⌜ Room (now reports) at (repricedReports x (without (x .id) (resting (now w)))) ⌝ }
-    ensures { λ r. ⌜ Does (now (w .entry)) (now (w .exit)) (now (reports .entry)) (now (reports .exit)) at (Working.work x (without (x .id) (resting (now (w .entry)))) .orders) (repricedReports x (without (x .id) (resting (now (w .entry))))) r ⌝ }
+// The order o, which is at position i, is taken out, reported at its new price, and works.
+fn reprice(
+    w: &mut [u32],
+    reports: &mut [u8],
+    at: usize,
+    i: usize,
+    o: Order,
+    price: u32,
+    used: bool,
+    stamp: u32,
+) -> usize
+    requires { ⌜ Ordered (now w) × (i < length (resting (now w))) × (o ≡ getD (resting (now w)) i emptyOrder) × (stamp < 4294967295) ⌝ }
+    requires { ⌜ Room (now reports) at (afterMove (Reprice price used) o (resting (now w)) stamp .reports) ⌝ }
+    ensures { λ r. ⌜ Does (now (w .entry)) (now (w .exit)) (now (reports .entry)) (now (reports .exit)) at (afterMove (Reprice price used) o (resting (now (w .entry))) stamp .orders) (afterMove (Reprice price used) o (resting (now (w .entry))) stamp .reports) r ⌝ }
 {
+    let x = at_new_price(price, stamp + 1, used, o);
     place::remove(w, i);
     let end = report::write_repriced(reports, at, x.id, x.price, x.stamp);
     working::work(w, reports, end, x)
@@ -168,11 +177,10 @@ fn make_move(
             }
         },
         Move::Reprice(price, used) => {
-            let next = stamp + 1;
-            let end = reprice(w, reports, at, i, at_new_price(price, next, used, o));
+            let end = reprice(w, reports, at, i, o, price, used, stamp);
             Passed {
                 end,
-                stamp: next,
+                stamp: stamp + 1,
                 next: i + 1,
             }
         },

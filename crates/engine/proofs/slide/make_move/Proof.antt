@@ -1,14 +1,14 @@
 -- By the move. Assumes nothing.
 use native.Mathlib.Omega.{arith}
-use mathlib.Core.Path.{refl, sym, ap, _∙_}
+use mathlib.Core.Path.{refl, sym, ap}
 use Rattle.book.specs.declared.Order.{Order}
 use Rattle.book.specs.rules.Orders.{without}
 use Rattle.book.specs.rules.Words.{resting}
 use Rattle.book.proofs.refinement.HoldsLaws.{holds-as}
 use Rattle.engine.specs.rules.Reports.{cancelled, optOut}
 use Rattle.engine.specs.rules.Pass.{afterMove}
-use Rattle.engine.proofs.refinement.StepLaws.{room-as, room-one, does-none, does-report, does-as}
-use Rattle.engine.proofs.refinement.SlideSteps.{does-without, moves, move-room, new-price-reports, new-price-orders}
+use Rattle.engine.proofs.refinement.StepLaws.{room-one, does-none, does-report}
+use Rattle.engine.proofs.refinement.SlideSteps.{does-without, moves, move-room}
 use borrow.Author.Needs.{needs}
 use Rattle.engine.proofs.slide.make_move.Statement.{statement}
 use Rattle.engine.proofs.slide.make_move.Tie as tie
@@ -16,8 +16,8 @@ use Rattle.engine.proofs.slide.make_move.Tie as tie
 enum-told : tie.Need-enum-told
 enum-told c = search needs
 
-add-t14 : tie.Need-add-t14
-add-t14 c = let s = c .before .before .before .before in omega (arith, s .pre .0 .1, s .pre .0 .0 .book .few)
+add-t13 : tie.Need-add-t13
+add-t13 c = let s = c .before .before .before .before in omega (arith, s .pre .0 .1, s .pre .0 .0 .book .few)
 
 enum-told-2 : tie.Need-enum-told-2
 enum-told-2 c = search needs
@@ -36,25 +36,18 @@ remove-requires c κs = (c .before .before .before .before .before .before .befo
 enum-known-made : tie.Need-enum-known-made
 enum-known-made c = search needs
 
-add-next : tie.Need-add-next
-add-next c = search needs
-
-at-new-price-requires : tie.Need-at-new-price-requires
-at-new-price-requires c κs = search needs
-
 reprice-requires : tie.Need-reprice-requires
 reprice-requires c κs =
-    let s = c .before .before .before .before .before .before .before .before in
+    let told = c .before .before .before in
+    let s = told .before .before .before .before in
     let a = s .args in
-    let l = resting (a .w .now) in
-    let k = c .before .before .before .before .made .given .0 .0 in
-    let u = c .before .before .before .before .made .given .0 .1 .0 in
-    let x = c .at-new-price .result in
-    let e = c .at-new-price .ensures in
-    ((s .pre .0 .0, s .pre .0 .1, ap (λ (z : Order). z .id) e ∙ ap (λ (z : Order). z .id) (s .pre .0 .2)), room-as (a .reports .now) (a .at) (sym (new-price-reports x (a .o) k (a .stamp) u l e)) (move-room (a .reports .now) (a .at) (a .o) l (a .stamp) (c .before .before .before .before .made .given .1) (s .pre .1)))
+    (s .pre .0, move-room (a .reports .now) (a .at) (a .o) (resting (a .w .now)) (a .stamp) (told .made .given .1) (s .pre .1))
 
-add-t25 : tie.Need-add-t25
-add-t25 c = let s = c .before .before .before .before .before .before .before .before .before .before .before .before .before in omega (arith, s .pre .0 .1, s .pre .0 .0 .book .few)
+add-t23 : tie.Need-add-t23
+add-t23 c = let s = c .before .before .before .before .before .before .before .before .before .before .before .before in omega (arith, s .pre .0 .3)
+
+add-t24 : tie.Need-add-t24
+add-t24 c = let s = c .before .before .before .before .before .before .before .before .before .before .before .before in omega (arith, s .pre .0 .1, s .pre .0 .0 .book .few)
 
 returns : tie.Need-returns
 unfolding afterMove
@@ -89,14 +82,10 @@ same-length-4 c = search needs
 returns-3 : tie.Need-returns-3
 unfolding afterMove
 returns-3 c =
-    let s = c .before .before .before .before .before .before .before .before .before .before .before .before .before in
-    let a = s .args in
-    let l = resting (a .w .now) in
-    let k = c .before .before .before .before .before .before .before .before .before .made .given .0 .0 in
-    let u = c .before .before .before .before .before .before .before .before .before .made .given .0 .1 .0 in
-    let x = c .before .before .before .before .before .at-new-price .result in
-    let e = c .before .before .before .before .before .at-new-price .ensures in
-    moves (a .o) l (a .stamp) (c .before .before .before .before .before .before .before .before .before .made .given .1) (record { does = does-as (new-price-orders x (a .o) k (a .stamp) u l e) (new-price-reports x (a .o) k (a .stamp) u l e) (c .before .before .before .before .reprice .ensures); stamped = refl })
+    let done = c .before .before .before .before in
+    let told = done .before .before .before .before in
+    let a = told .before .before .before .before .args in
+    moves (a .o) (resting (a .w .now)) (a .stamp) (told .made .given .1) (record { does = done .reprice .ensures; stamped = refl })
 
 pub make-move-spec : {M : Type 1} → statement M
-make-move-spec = tie.close (tie.spec enum-told add-t14 enum-told-2 write-cancelled-requires remove-requires enum-known-made add-next at-new-price-requires reprice-requires add-t25 returns same-length same-length-2 returns-2 same-length-3 same-length-4 returns-3)
+make-move-spec = tie.close (tie.spec enum-told add-t13 enum-told-2 write-cancelled-requires remove-requires enum-known-made reprice-requires add-t23 add-t24 returns same-length same-length-2 returns-2 same-length-3 same-length-4 returns-3)
