@@ -2,22 +2,25 @@
 use crate::OpenAnswer;
 use crate::Opened;
 use crate::Refusal;
-use prices::increments;
+use prices::Price;
+use prices::PriceAnswer;
 ghost use Rattle.engine.specs.claims.Calls.{Opens};
 
 pub fn open(close: u32) -> Opened
     ensures { λ r. ⌜ Opens close (r .answer) (r .words) ⌝ }
 {
     let mut words = [0u32; 3344];
-    if increments::is_legal(close) {
-        words[1] = close;
-        return Opened {
-            answer: OpenAnswer::Fresh,
+    match Price::new(close) {
+        PriceAnswer::Legal(price) => {
+            words[1] = price.value;
+            Opened {
+                answer: OpenAnswer::Fresh,
+                words,
+            }
+        },
+        PriceAnswer::NotLegal => Opened {
+            answer: OpenAnswer::NotOpened(Refusal::PriceNotLegal),
             words,
-        };
-    }
-    Opened {
-        answer: OpenAnswer::NotOpened(Refusal::PriceNotLegal),
-        words,
+        },
     }
 }
