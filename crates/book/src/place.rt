@@ -58,7 +58,7 @@ pub fn remove(w: &mut [u32], i: usize)
 }
 
 // Puts an order in the place of the one at position i.
-pub fn replace(w: &mut [u32], i: usize, o: Order)
+pub(crate) fn replace(w: &mut [u32], i: usize, o: Order)
     requires { ⌜ Book (now w) × (i < length (resting (now w))) ⌝ }
     ensures { λ _. ⌜ Holds (now (w .entry)) (now (w .exit)) (set (resting (now (w .entry))) i o) ⌝ }
 {

@@ -9,7 +9,7 @@ ghost use Rattle.book.specs.rules.Orders;
 ghost use Rattle.book.specs.rules.Sound.{idsRise};
 ghost use Rattle.book.specs.rules.Words.{emptyOrder, resting};
 ghost use Rattle.book.specs.steps.BookSteps.{Book};
-ghost use Rattle.book.specs.steps.Positions.{rankOf, firstAbove, Found};
+ghost use Rattle.book.specs.steps.Positions.{rankOf, Found};
 
 // The id of the order at position i.
 pub fn id_at(w: &[u32], i: usize) -> u32
@@ -80,16 +80,4 @@ pub fn find_near(w: &[u32], id: u32, near: usize) -> Position
         }
     }
     find(w, id)
-}
-
-// The first order with a greater id.
-pub fn first_above(w: &[u32], id: u32) -> Position
-    requires { ⌜ Book (now w) × T (idsRise 0 (resting (now w))) ⌝ }
-    ensures { λ r. ⌜ Found (resting (now (w .entry))) r (firstAbove id (resting (now (w .entry)))) ⌝ }
-{
-    let above = rank(w, id);
-    if above < words::count(w) {
-        return Position::At(above);
-    }
-    Position::Absent
 }

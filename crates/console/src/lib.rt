@@ -8,12 +8,9 @@ use engine::OpenAnswer;
 use engine::apply;
 use engine::open;
 use engine::refusals;
-use numbers::NumberRead;
-use numbers::read;
+use records::FieldRead;
 use records::RecordRead;
 use records::record;
-
-const HIGHEST_FIELD: u64 = 4_294_967_295;
 
 // Plays one input.
 pub fn play(input: &[u8]) {
@@ -25,15 +22,9 @@ pub fn play(input: &[u8]) {
 
 // "a close as one seven-bit number (9, 10 or 12 as in a record, then 3), then records"
 fn play_close(input: &[u8], out: &mut [u8]) -> usize {
-    match read::read_number(input, 0) {
-        NumberRead::MissingByte => line::put_refusal(out, 0, 9),
-        NumberRead::BadNumber => line::put_refusal(out, 0, 10),
-        NumberRead::Value { value, end } => {
-            if value > HIGHEST_FIELD {
-                return line::put_refusal(out, 0, 12);
-            }
-            play_day(input, end, value as u32, out)
-        }
+    match record::read_field(input, 0) {
+        FieldRead::Refused(refusal) => line::put_refusal(out, 0, record::refusal_number(refusal)),
+        FieldRead::Field { value, end } => play_day(input, end, value, out),
     }
 }
 

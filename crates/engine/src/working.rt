@@ -10,7 +10,7 @@ use book::place;
 use book::priority;
 use book::trade;
 use book::words;
-use prices::PriceAnswer;
+use prices::PermittedAnswer;
 use prices::increments;
 use prices::restriction;
 ghost use mathlib.Core.Path.{_≡_};
@@ -70,8 +70,8 @@ pub(crate) fn permitted_now(m: Market) -> u32
     ensures { λ r. ⌜ r ≡ permittedNow m ⌝ }
 {
     match increments::permitted_price(m.bid) {
-        PriceAnswer::NotLegal => 0,
-        PriceAnswer::Legal(price) => price.value,
+        PermittedAnswer::NotBid => 0,
+        PermittedAnswer::Permitted(price) => price.value,
     }
 }
 

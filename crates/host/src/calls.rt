@@ -7,7 +7,7 @@ use engine::Refusal;
 use engine::apply;
 use engine::open;
 use engine::refusals;
-use prices::PriceAnswer;
+use prices::PermittedAnswer;
 use prices::increments;
 use records::RecordRead;
 use records::record;
@@ -104,7 +104,7 @@ pub extern "C" fn venue_permitted_price(bid: u32) -> u32
     ensures { λ r. ⌜ r ≡ valueOrZero (permittedOf bid) ⌝ }
 {
     match increments::permitted_price(bid) {
-        PriceAnswer::NotLegal => 0,
-        PriceAnswer::Legal(price) => price.value,
+        PermittedAnswer::NotBid => 0,
+        PermittedAnswer::Permitted(price) => price.value,
     }
 }

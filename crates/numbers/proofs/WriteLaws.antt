@@ -1,5 +1,5 @@
 -- Writing bytes at an offset: group by group, and one thing after another. Assumes nothing.
-use Prim.Native.Nat.{ℕ, suc, _+_, _^_, _/_, _%_, _≤_, _<_}
+use Prim.Native.Nat.{ℕ, suc, _+_, _/_, _%_, _≤_, _<_}
 use native.Mathlib.Omega.{arith}
 use mathlib.Core.Path.{_≡_, refl, sym, ap, _∙_, subst}
 use mathlib.Core.List.{List, [], _∷_, _++_, append-nil}
@@ -11,10 +11,9 @@ use borrow.Author.Tests.{le-leb, lt-leb, leb-true, leb-false}
 use native.Mathlib.Decide.{decLe}
 use Rattle.numbers.specs.Tests.{pick}
 use Rattle.numbers.specs.Answers.{gives, refuses}
-use Rattle.numbers.specs.SevenBit.{bytesOf, numberAt, Stands, overwrite, Put, Written}
+use Rattle.numbers.specs.SevenBit.{bytesOf, Stands, overwrite, Put, Written}
 use Rattle.numbers.proofs.ByteLaws.{bytes-last, bytes-more}
 use Rattle.numbers.proofs.PlaceLaws.{overwrite-sets, length-overwrite, overwrite-stands}
-use Rattle.numbers.proofs.ReadLaws.{number, read-there}
 
 -- one group written, and the last one
 pub write-more : (b : List ℕ) (i x : ℕ) → 128 ≤ x → sets b i (bytesOf x) ≡ sets (set b i (x % 128 + 128)) (i + 1) (bytesOf (x / 128))
@@ -106,9 +105,6 @@ fitted {new} {before} {after} {at} {e} w = go (decLe (at + length new) (length b
         let p : gives e ≡ refuses 13 = rw (lt-leb (at + length new) (length before) (omega arith)) at (w .answers) in
         absurd (let z : _≡_ {A = ℕ} 0 1 = cc in omega arith)
 
--- what was written stands there, and a number reads back with the same end
+-- what was written stands there
 pub written-stands : {new before after : List ℕ} {at e : ℕ} → Written new at before (gives e) after → Stands after at new e
 written-stands w = let f = fitted w in put-stands (f .room) (f .put)
-
-pub written-reads : {before after : List ℕ} {at e : ℕ} (x : ℕ) → x < 2 ^ 64 → Written (bytesOf x) at before (gives e) after → numberAt after at ≡ number x e
-written-reads x h w = read-there x h (written-stands w)

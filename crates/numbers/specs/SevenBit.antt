@@ -104,7 +104,7 @@ pub record Put (new : List ℕ) (at : ℕ) (before : List ℕ) (end : ℕ) (afte
   pub ends : end ≡ at + length new
   pub leaves : after ≡ overwrite before at new
 
--- the paper's terms for the answers of `write_number` and `write_numbers`
+-- the paper's terms for the answers of `write_numbers`
 abbrev pub outcomeOfWrite : NumberWrite → Outcome ℕ
 outcomeOfWrite (End e) = gives e
 outcomeOfWrite NoRoom = refuses 13

@@ -73,13 +73,13 @@ const COUNTS: [u8; 65] = [
 ];
 
 // "the bit length of a number is 64 less its leading zeros"
-pub fn bit_length(x: u64) -> u32
+fn bit_length(x: u64) -> u32
     ensures { λ r. ⌜ BitLength x r ⌝ }
 {
     64 - u64::leading_zeros(x)
 }
 
-pub fn byte_count(x: u64) -> usize
+fn byte_count(x: u64) -> usize
     ensures { λ r. ⌜ r ≡ byteCount x ⌝ }
 {
     let n = bit_length(x) as usize;
@@ -87,7 +87,7 @@ pub fn byte_count(x: u64) -> usize
 }
 
 // How many bytes several numbers take, one after another.
-pub fn byte_counts(xs: &[u64]) -> usize
+pub(crate) fn byte_counts(xs: &[u64]) -> usize
     ensures { λ r. ⌜ r ≡ length (bytesOfAll (now (xs .entry))) ⌝ }
 {
     let mut count = 0;

@@ -17,7 +17,7 @@ pub enum NumberRead {
     BadNumber,
 }
 
-// What writing a number answers: the offset behind it, or that it doesn't fit.
+// What writing numbers answers: the offset behind them, or that they don't fit.
 pub enum NumberWrite {
     End(usize),
     NoRoom,

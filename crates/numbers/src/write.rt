@@ -1,4 +1,4 @@
-// Writing a number, and several, at an offset.
+// Writing numbers at an offset.
 use crate::NumberWrite;
 use crate::count;
 ghost use mathlib.Core.Path.{_≡_};
@@ -31,15 +31,6 @@ fn put_number(bytes: &mut [u8], at: usize, x: u64) -> usize
     }
     bytes[i] = rest as u8;
     i + 1
-}
-
-pub fn write_number(bytes: &mut [u8], at: usize, x: u64) -> NumberWrite
-    ensures { λ r. ⌜ Written (bytesOf x) at (now (bytes .entry)) (outcomeOfWrite r) (now (bytes .exit)) ⌝ }
-{
-    if fits(bytes.len(), at, count::byte_count(x)) {
-        return NumberWrite::End(put_number(bytes, at, x));
-    }
-    NumberWrite::NoRoom
 }
 
 // Writes numbers for which there is room, one after another, and returns the offset behind them.

@@ -2,12 +2,22 @@
 use Prim.Native.Nat.{ℕ, suc, _+_, _%_, _≤_, _<_, max}
 use native.Mathlib.Omega.{arith}
 use native.Mathlib.Decide.{decLe, decLt}
-use mathlib.Core.Path.{_≡_, refl, subst}
-use mathlib.Core.Bool.{true, false, _&&_, _||_}
+use mathlib.Core.Path.{_≡_, refl, sym, ap, _∙_, subst}
+use mathlib.Core.Bool.{Bool, true, false, not, _&&_, _||_}
 use mathlib.Core.Logic.{_⊎_, inl, inr}
-use lib.Dec.{T, leb, ltb, eqb, leb→le, le→leb, eqb→eq}
-use Rattle.prices.specs.Prices.{highest, dollarBorder, step, highestBid, legal, isBid, permitted}
-use Rattle.numbers.proofs.TestLaws.{by-test, bool-ext, and-T, T-and, or-T, T-inl, T-inr, eq→T, tests}
+use lib.Dec.{T, leb, ltb, eqb, leb→le, le→leb, eqb→eq, not-T}
+use borrow.Author.Tests.{leb-true, leb-false}
+use Rattle.prices.specs.Prices.{highest, dollarBorder, step, highestBid, legal, isBid, permitted, priceOf, permittedOf}
+use Rattle.numbers.specs.Tests.{pick}
+use Rattle.numbers.specs.Answers.{Outcome, gives, refuses}
+use Rattle.numbers.proofs.TestLaws.{by-test, pick-no, T-true, T-false, not-yes, not-no, bool-ext, and-T, T-and, or-T, T-inl, T-inr, eq→T, tests}
+
+-- what the answer of a call says that tests a bound
+pub within : {t : Bool} (p n : ℕ) → t ≡ leb p n → not t ≡ false → p ≤ n
+within p n e f = leb-true p n (sym e ∙ not-no _ f)
+
+pub beyond : {t : Bool} (p n : ℕ) → t ≡ leb p n → not t ≡ true → n < p
+beyond p n e f = leb-false p n (sym e ∙ not-yes _ f)
 
 -- what the test of a legal price says
 
@@ -58,6 +68,17 @@ legal-whole p h e =
 pub legal-other : (p : ℕ) → p ≤ highest → (p % step ≡ 0 → ⊥) → ltb p dollarBorder ≡ legal p
 legal-other p h n =
     bool-ext _ _ (λ t. legal-in p (record { low = not-whole p n; high = h; onStep = inl (leb→le (suc p) dollarBorder t) })) (λ t. below p n (legal-out p t .onStep))
+
+-- what taking a number as a price says of it
+pub price-given : (n p : ℕ) → gives p ≡ priceOf n → (legal n ≡ true) × (p ≡ n)
+unfolding priceOf
+price-given n p =
+    by-test (λ (o : Outcome ℕ). gives p ≡ o → (legal n ≡ true) × (p ≡ n)) (legal n) (λ t e. (T-true (legal n) t, cc)) (λ t e. absurd (let z : _≡_ {A = ℕ} 0 1 = cc in omega arith))
+
+pub price-refused : (n : ℕ) → refuses 3 ≡ priceOf n → legal n ≡ false
+unfolding priceOf
+price-refused n =
+    by-test (λ (o : Outcome ℕ). refuses 3 ≡ o → legal n ≡ false) (legal n) (λ t e. absurd (let z : _≡_ {A = ℕ} 0 1 = cc in omega arith)) (λ t e. T-false (legal n) t)
 
 pub legal-positive : (p : ℕ) → T (legal p) → 1 ≤ p
 legal-positive p t = legal-out p t .low
@@ -155,6 +176,29 @@ permitted-legal b t =
     large : dollarBorder ≤ b → (b ≡ 0) ⊎ (Legal b × (b ≤ highestBid)) → Legal (b + step)
     large h (inl x) = absurd (omega arith)
     large h (inr x) = record { low = omega arith; high = omega (arith, x .1); onStep = inr (onStep h (x .0 .onStep)) }
+
+-- the rule of the permitted price gives a legal price for bids alone
+permitted-of-bid : (b : ℕ) → b ≤ highestBid → T (legal (permitted b)) → T (isBid b)
+permitted-of-bid b h =
+    permitted-by
+    (λ (x : ℕ). T (legal x) → T (isBid b))
+    b
+    (λ z t. bid-in b (inl z))
+    (λ l k t. bid-in b (inr (record { low = l; high = omega arith; onStep = inl k }, h)))
+    (λ k t. bid-in b (inr (record { low = omega arith; high = omega arith; onStep = inr (onStep k (legal-out (b + step) t .onStep)) }, h)))
+  where
+    onStep : dollarBorder ≤ b → (b + step < dollarBorder) ⊎ ((b + step) % step ≡ 0) → b % step ≡ 0
+    onStep k (inl x) = absurd (omega arith)
+    onStep k (inr x) = omega arith
+
+pub permitted-taken : (b : ℕ) {p : ℕ} {o : Outcome ℕ} → b ≤ highestBid → p ≡ permitted b → o ≡ priceOf p → o ≡ permittedOf b
+unfolding priceOf permittedOf
+permitted-taken b h e f =
+    f ∙ ap priceOf e ∙ ap (λ (t : Bool). pick t (gives (permitted b)) (refuses 3)) (bool-ext _ _ (permitted-of-bid b h) (permitted-legal b))
+
+pub permitted-beyond : (b : ℕ) → highestBid < b → refuses 3 ≡ permittedOf b
+unfolding permittedOf
+permitted-beyond b h = sym (pick-no (isBid b) _ _ (not-T (isBid b) (λ t. omega (arith, bid-highest b t))))
 
 -- no legal price lies strictly between a bid and its permitted price
 pub permitted-next : (b p : ℕ) → T (isBid b) → T (legal p) → b < p → permitted b ≤ p

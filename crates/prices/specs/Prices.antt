@@ -6,6 +6,8 @@ use Rattle.numbers.specs.Tests.{pick}
 use Rattle.numbers.specs.Answers.{Outcome, gives, refuses}
 use Rattle.prices.specs.declared.PriceAnswer.{PriceAnswer}
 use Rattle.prices.specs.declared.PriceAnswer.the-variants.{Legal, NotLegal}
+use Rattle.prices.specs.declared.PermittedAnswer.{PermittedAnswer}
+use Rattle.prices.specs.declared.PermittedAnswer.the-variants.{Permitted, NotBid}
 
 -- "The price kind carries its highest value and its dollar border"
 abbrev pub highest : ℕ
@@ -40,7 +42,11 @@ priceOf p = pick (legal p) (gives p) (refuses 3)
 unfoldable pub permittedOf : ℕ → Outcome ℕ
 permittedOf b = pick (isBid b) (gives (permitted b)) (refuses 3)
 
--- the paper's terms for an answer that is a price or its refusal
+-- the paper's terms for these answers: a price, or 3
 abbrev pub outcomeOfPrice : PriceAnswer → Outcome ℕ
 outcomeOfPrice (Legal p) = gives (p .value)
 outcomeOfPrice NotLegal = refuses 3
+
+abbrev pub outcomeOfPermitted : PermittedAnswer → Outcome ℕ
+outcomeOfPermitted (Permitted p) = gives (p .value)
+outcomeOfPermitted NotBid = refuses 3

@@ -7,10 +7,16 @@ pub struct Price {
     pub value: u32,
 }
 
-// A price, or the refusal of a number that gives none.
+// A number taken as a price: the price, or that it isn't legal.
 pub enum PriceAnswer {
     Legal(Price),
     NotLegal,
+}
+
+// The permitted price of a number taken as a bid, or that it isn't a bid.
+pub enum PermittedAnswer {
+    Permitted(Price),
+    NotBid,
 }
 
 // A host's own record of a close and the phase of the restriction under it.

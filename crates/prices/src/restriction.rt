@@ -7,7 +7,7 @@ ghost use Rattle.prices.specs.Restriction.{phaseAfterTape, phaseAfterDay
 ghost use Rattle.prices.specs.Watch.{watchedPhase, watched, watchOutcome, outcomeOfWatch};
 
 // Whether a tape price is 10% or more below the close. The products take 64 bits.
-pub fn triggers(close: u32, price: u32) -> bool
+fn triggers(close: u32, price: u32) -> bool
     ensures { λ r. ⌜ r ≡ Rattle.prices.specs.Restriction.triggers close price ⌝ }
 {
     10 * (price as u64) <= 9 * (close as u64)

@@ -23,7 +23,7 @@ ghost use Rattle.records.specs.RecordAnswers.{readRefusalNumber, outcome
 const HIGHEST_FIELD: u64 = 4_294_967_295;
 
 // The field at an offset: its number is read, then judged.
-fn read_field(bytes: &[u8], at: usize) -> FieldRead
+pub fn read_field(bytes: &[u8], at: usize) -> FieldRead
     ensures { λ r. ⌜ outcomeOfField r ≡ fieldsAt 1 (now (bytes .entry)) at ⌝ }
 {
     match read::read_number(bytes, at) {

@@ -4,18 +4,18 @@ use native.Mathlib.Nat.{le-of-suc-le-suc, not-suc-le-zero}
 use native.Mathlib.Omega.{arith}
 use mathlib.Core.Path.{_≡_, refl, sym, ap, _∙_, subst}
 use mathlib.Core.Bool.{Bool, true, false, not}
-use mathlib.Core.Option.{Option, none, some}
-use mathlib.Core.List.{List, [], _∷_, List·Memᴰ, List·Memᴰ·head, List·Memᴰ·tail}
+use mathlib.Core.Option.{none}
+use mathlib.Core.List.{List, [], _∷_}
 use lib.Dec.{T, ltb, lt→ltb, ltb→lt, not-T}
 use lib.ListN.{length, getD}
-use Rattle.numbers.specs.Tests.{pick, All}
-use Rattle.numbers.proofs.TestLaws.{by-test, pick-yes, pick-no, ne→T, tests, all-map}
+use Rattle.numbers.specs.Tests.{pick}
+use Rattle.numbers.proofs.TestLaws.{by-test, pick-yes, pick-no, ne→T}
 use Rattle.book.specs.declared.Order.{Order}
 use Rattle.book.specs.rules.Orders.{find, insert}
 use Rattle.book.specs.rules.Words.{emptyOrder}
-use Rattle.book.specs.steps.Positions.{insertAt, rankOf, firstAbove}
+use Rattle.book.specs.steps.Positions.{insertAt, rankOf}
 use Rattle.book.proofs.refinement.TabulateLaws.{by-order}
-use Rattle.book.proofs.definitions.RisingLaws.{Rises, rises-all}
+use Rattle.book.proofs.definitions.RisingLaws.{Rises}
 use Rattle.book.proofs.refinement.PositionLaws.{id-above}
 
 -- the id at a position
@@ -57,22 +57,6 @@ rank-length id [] = zero-le
 rank-length id (o ∷ os) =
     by-test (λ (n : ℕ). n ≤ suc (length os)) _ (λ t. zero-le) (λ t. omega (arith, rank-length id os))
 
-pub rank-below : (id : ℕ) (l : List Order) (j : ℕ) → j < rankOf id l → idIn l j ≤ id
-unfolding rankOf
-rank-below id [] j h = absurd (not-suc-le-zero h)
-rank-below id (o ∷ os) j h =
-    by-test (λ (n : ℕ). j < n → idIn (o ∷ os) j ≤ id) _ (λ t a. absurd (not-suc-le-zero a)) (λ t a. go j a t (rank-below id os)) h
-  where
-    go : (j : ℕ) → j < suc (rankOf id os) → T (not (ltb id (o .id))) → ((j : ℕ) → j < rankOf id os → idIn os j ≤ id) → idIn (o ∷ os) j ≤ id
-    go zero a t f = omega tests
-    go (suc j) a t f = f j (le-of-suc-le-suc a)
-
-pub rank-above : (id : ℕ) (l : List Order) → rankOf id l < length l → id < idIn l (rankOf id l)
-unfolding rankOf
-rank-above id [] h = absurd (not-suc-le-zero h)
-rank-above id (o ∷ os) h =
-    by-test (λ (n : ℕ). n < suc (length os) → id < idIn (o ∷ os) n) _ (λ t a. ltb→lt id (o .id) t) (λ t a. rank-above id os (le-of-suc-le-suc a)) h
-
 -- the binary search: nothing below low is above the id, all from high on are
 pub record RankBetween (l : List Order) (id low high : ℕ) : Type 0 where
   pub ordered : low ≤ high
@@ -111,51 +95,6 @@ find-none id (o ∷ os) h =
 
 pub find-absent : (id : ℕ) (l : List Order) → Rises 0 l → ((j : ℕ) → suc j ≡ rankOf id l → idIn l j ≡ id → ⊥) → find id l ≡ none
 find-absent id l r k = find-none id l (λ j h e. k j (rank-of-found id l j r h e) e)
-
-pub firstAbove-at : (id : ℕ) (l : List Order) → rankOf id l < length l → firstAbove id l ≡ some (getD l (rankOf id l) emptyOrder)
-unfolding firstAbove rankOf pick
-firstAbove-at id [] h = absurd (not-suc-le-zero h)
-firstAbove-at id (o ∷ os) h = go (ltb id (o .id)) (firstAbove-at id os) h
-  where
-    go : (b : Bool) → (rankOf id os < length os → firstAbove id os ≡ some (getD os (rankOf id os) emptyOrder)) → pick b 0 (suc (rankOf id os)) < suc (length os) → pick b (some o) (firstAbove id os) ≡ some (getD (o ∷ os) (pick b 0 (suc (rankOf id os))) emptyOrder)
-    go true f h = refl
-    go false f h = f (le-of-suc-le-suc h)
-
-pub firstAbove-none : (id : ℕ) (l : List Order) → length l ≤ rankOf id l → firstAbove id l ≡ none
-unfolding firstAbove rankOf pick
-firstAbove-none id [] h = refl
-firstAbove-none id (o ∷ os) h = go (ltb id (o .id)) (firstAbove-none id os) h
-  where
-    go : (b : Bool) → (length os ≤ rankOf id os → firstAbove id os ≡ none) → suc (length os) ≤ pick b 0 (suc (rankOf id os)) → pick b (some o) (firstAbove id os) ≡ none
-    go true f h = absurd (not-suc-le-zero h)
-    go false f h = f (le-of-suc-le-suc h)
-
--- what is known where the first order above an id is this
-abbrev pub FirstAbove : ℕ → List Order → Option Order → Type 0
-FirstAbove id l none = All (λ (o : Order). o.id ≤ id) l
-FirstAbove id l (some o) = List·Memᴰ o l × (id < o.id)
-
-pub firstAbove-is : (id : ℕ) (l : List Order) → FirstAbove id l (firstAbove id l)
-unfolding firstAbove
-firstAbove-is id [] = tt
-firstAbove-is id (x ∷ xs) =
-    by-test (FirstAbove id (x ∷ xs)) _ (λ t. (List·Memᴰ·head refl, ltb→lt id (x .id) t)) (λ t. further (firstAbove id xs) (omega tests) (firstAbove-is id xs))
-  where
-    further : (m : Option Order) → x.id ≤ id → FirstAbove id xs m → FirstAbove id (x ∷ xs) m
-    further none h f = (h, f)
-    further (some o) h f = (List·Memᴰ·tail (f .0), f .1)
-
--- where ids rise, none above the id is lower
-pub firstAbove-least : (k id : ℕ) (l : List Order) (o : Order) → Rises k l → firstAbove id l ≡ some o → All (λ (x : Order). id < x.id → o.id ≤ x.id) l
-unfolding firstAbove
-firstAbove-least k id [] o r e = tt
-firstAbove-least k id (x ∷ xs) o r eq =
-    by-test
-    (λ (m : Option Order). m ≡ some o → All (λ (y : Order). id < y.id → o.id ≤ y.id) (x ∷ xs))
-    _
-    (λ t e. let q : x ≡ o = cc in subst (λ (z : Order). All (λ (y : Order). id < y.id → z.id ≤ y.id) (x ∷ xs)) q ((λ h. omega arith), all-map (λ y h g. omega arith) xs (rises-all (x .id) xs (r .1))))
-    (λ t e. ((λ h. absurd (omega tests)), firstAbove-least (x .id) id xs o (r .1) e))
-    eq
 
 -- by position and by id: no rising ids are needed
 pub insert-rank : (o : Order) (l : List Order) → insert o l ≡ insertAt (rankOf (o .id) l) o l

@@ -28,11 +28,6 @@ unfoldable pub rankOf : ℕ → List Order → ℕ
 rankOf id [] = 0
 rankOf id (x ∷ xs) = pick (ltb id (x .id)) 0 (suc (rankOf id xs))
 
--- the first order with a greater id
-unfoldable pub firstAbove : ℕ → List Order → Option Order
-firstAbove id [] = none
-firstAbove id (x ∷ xs) = pick (ltb id (x .id)) (some x) (firstAbove id xs)
-
 -- the order at a position
 abbrev pub orderIn : List Order → Position → Option Order
 orderIn l Absent = none

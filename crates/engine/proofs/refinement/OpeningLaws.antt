@@ -1,7 +1,7 @@
 -- What an opened venue is, and what the words of open mean. Assumes nothing.
 use Prim.Native.Nat.{ℕ}
 use native.Mathlib.Omega.{arith}
-use mathlib.Core.Path.{_≡_, refl, ap, _∙_}
+use mathlib.Core.Path.{_≡_, refl, sym, ap, _∙_, subst}
 use mathlib.Core.Bool.{true, false, not}
 use mathlib.Core.List.{List, [], _++_, append-nil}
 use lib.Dec.{T, not-T}
@@ -9,7 +9,8 @@ use lib.ListN.{length, set, replicate, length-append, length-replicate, length-s
 use Rattle.numbers.specs.Answers.{Outcome, gives, refuses}
 use Rattle.numbers.specs.Tests.{pick}
 use Rattle.numbers.proofs.TestLaws.{by-test, pick-yes, pick-no}
-use Rattle.prices.specs.Prices.{legal}
+use Rattle.prices.specs.Prices.{legal, priceOf}
+use Rattle.prices.proofs.PriceLaws.{price-given, price-refused}
 use Rattle.book.specs.rules.Words.{venueWords, layoutNumber, layoutWord, isBook}
 use Rattle.book.proofs.refinement.WordLaws.{resting-tabulate, isBook-laidOut, laidOut-isBook}
 use Rattle.engine.specs.declared.Event.{Event}
@@ -91,10 +92,16 @@ not-opened close t e n = rw (opened-no close t) (ap (λ (s : Step). s .answer) (
 
 -- what open answers and leaves
 
-pub opens-yes : (close : ℕ) → legal close ≡ true → Opens close Fresh (freshWords close)
+pub opens-yes : (close p : ℕ) → gives p ≡ priceOf close → Opens close Fresh (freshWords p)
 unfolding opening openedWords pick
-opens-yes close e = record { answers = rw e (ap gives (fresh-none close)); is = rw e }
+opens-yes close p e = subst (λ (x : ℕ). Opens close Fresh (freshWords x)) (sym (taken .1)) (at-close (taken .0))
+  where
+    taken : (legal close ≡ true) × (p ≡ close)
+    taken = price-given close p e
 
-pub opens-no : (close : ℕ) → legal close ≡ false → Opens close (NotOpened PriceNotLegal) (replicate venueWords 0)
+    at-close : legal close ≡ true → Opens close Fresh (freshWords close)
+    at-close t = record { answers = rw t (ap gives (fresh-none close)); is = rw t }
+
+pub opens-no : (close : ℕ) → refuses 3 ≡ priceOf close → Opens close (NotOpened PriceNotLegal) (replicate venueWords 0)
 unfolding opening openedWords pick
-opens-no close e = record { answers = rw e; is = rw e }
+opens-no close e = let t = price-refused close e in record { answers = rw t; is = rw t }

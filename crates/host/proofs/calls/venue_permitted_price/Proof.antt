@@ -1,6 +1,6 @@
 -- The price of the answer, and 0 for the refusal. Assumes nothing.
 use mathlib.Core.Path.{sym, ap, _∙_}
-use Rattle.prices.specs.Prices.{outcomeOfPrice}
+use Rattle.prices.specs.Prices.{outcomeOfPermitted}
 use Rattle.host.specs.rules.Host.{valueOrZero}
 use borrow.Author.Needs.{needs}
 use Rattle.host.proofs.calls.venue_permitted_price.Statement.{statement}
@@ -16,10 +16,10 @@ enum-known-price : tie.Need-enum-known-price
 enum-known-price c = search needs
 
 returns : tie.Need-returns
-returns c = ap valueOrZero (sym (ap outcomeOfPrice (c .enum-told .given .1)) ∙ c .before .before .permitted-price .ensures)
+returns c = ap valueOrZero (sym (ap outcomeOfPermitted (c .enum-told .given .1)) ∙ c .before .before .permitted-price .ensures)
 
 returns-2 : tie.Need-returns-2
-returns-2 c = ap valueOrZero (sym (ap outcomeOfPrice (c .before .price .given .1)) ∙ c .before .before .before .permitted-price .ensures)
+returns-2 c = ap valueOrZero (sym (ap outcomeOfPermitted (c .before .price .given .1)) ∙ c .before .before .before .permitted-price .ensures)
 
 pub venue-permitted-price-spec : {M : Type 1} → statement M
 venue-permitted-price-spec =

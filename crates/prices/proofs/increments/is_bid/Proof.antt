@@ -1,13 +1,21 @@
 -- Each return has the test that leads there. Assumes nothing.
+use mathlib.Core.Path.{_∙_}
+use borrow.Author.Needs.{needs}
 use Rattle.prices.proofs.PriceLaws.{bid-whole, bid-other}
 use Rattle.prices.proofs.increments.is_bid.Statement.{statement}
 use Rattle.prices.proofs.increments.is_bid.Tie as tie
 
+up-to-highest-bid-requires : tie.Need-up-to-highest-bid-requires
+up-to-highest-bid-requires c κs = search needs
+
 returns : tie.Need-returns
-returns c = bid-whole _ (c .if1 .taken)
+returns c = c .up-to-highest-bid .ensures ∙ bid-whole _ (c .before .if1 .taken)
+
+below-border-requires : tie.Need-below-border-requires
+below-border-requires c κs = search needs
 
 returns-2 : tie.Need-returns-2
-returns-2 c = bid-other _ (c .if1 .left)
+returns-2 c = c .below-border .ensures ∙ bid-other _ (c .before .if1 .left)
 
 pub is-bid-spec : {M : Type 1} → statement M
-is-bid-spec = tie.close (tie.spec returns returns-2)
+is-bid-spec = tie.close (tie.spec up-to-highest-bid-requires returns below-border-requires returns-2)

@@ -1,16 +1,24 @@
 -- Each return has the tests that lead there. Assumes nothing.
-use Rattle.prices.proofs.PriceLaws.{legal-beyond, legal-whole, legal-other}
+use mathlib.Core.Path.{_∙_}
+use borrow.Author.Needs.{needs}
+use Rattle.prices.proofs.PriceLaws.{within, beyond, legal-beyond, legal-whole, legal-other}
 use Rattle.prices.proofs.increments.is_legal.Statement.{statement}
 use Rattle.prices.proofs.increments.is_legal.Tie as tie
 
+up-to-highest-requires : tie.Need-up-to-highest-requires
+up-to-highest-requires c κs = search needs
+
 returns : tie.Need-returns
-returns c = legal-beyond _ (c .if1 .taken)
+returns c = legal-beyond _ (beyond _ _ (c .before .up-to-highest .ensures) (c .if1 .taken))
 
 returns-2 : tie.Need-returns-2
-returns-2 c = legal-whole _ (c .before .if1 .left) (c .if2 .taken)
+returns-2 c = let d = c .before in legal-whole _ (within _ _ (d .before .up-to-highest .ensures) (d .if1 .left)) (c .if2 .taken)
+
+below-border-requires : tie.Need-below-border-requires
+below-border-requires c κs = search needs
 
 returns-3 : tie.Need-returns-3
-returns-3 c = legal-other _ (c .before .if1 .left) (c .if2 .left)
+returns-3 c = let d = c .before .before in c .below-border .ensures ∙ legal-other _ (within _ _ (d .before .up-to-highest .ensures) (d .if1 .left)) (c .before .if2 .left)
 
 pub is-legal-spec : {M : Type 1} → statement M
-is-legal-spec = tie.close (tie.spec returns returns-2 returns-3)
+is-legal-spec = tie.close (tie.spec up-to-highest-requires returns returns-2 below-border-requires returns-3)

@@ -1,26 +1,35 @@
--- A bid is at most the highest one, so the price above it is found; any other number is refused. Assumes nothing.
-use mathlib.Core.Path.{ap, _∙_}
+-- A number up to the highest bid is a bid just where the price above it is legal; a number beyond it is none. Assumes nothing.
+use mathlib.Core.Path.{sym, ap, _∙_}
 use borrow.Author.Needs.{needs}
-use Rattle.numbers.specs.Answers.{gives, refuses}
-use Rattle.numbers.proofs.TestLaws.{answered-yes, answered-no, answered-T}
-use Rattle.prices.specs.Prices.{permittedOf}
-use Rattle.prices.proofs.PriceLaws.{bid-highest}
+use Rattle.prices.specs.Prices.{outcomeOfPrice}
+use Rattle.prices.proofs.PriceLaws.{within, beyond, permitted-taken, permitted-beyond}
 use Rattle.prices.proofs.increments.permitted_price.Statement.{statement}
 use Rattle.prices.proofs.increments.permitted_price.Tie as tie
 
-is-bid-requires : tie.Need-is-bid-requires
-is-bid-requires c κs = search needs
-
-price-above-requires : tie.Need-price-above-requires
-price-above-requires c κs = bid-highest _ (answered-T (c .before .is-bid .ensures) (c .if1 .taken))
+up-to-highest-bid-requires : tie.Need-up-to-highest-bid-requires
+up-to-highest-bid-requires c κs = search needs
 
 returns : tie.Need-returns
-unfolding permittedOf
-returns c = ap gives (c .price-above .ensures) ∙ answered-yes _ (refuses 3) (c .before .before .is-bid .ensures) (c .before .if1 .taken)
+returns c = permitted-beyond _ (beyond _ _ (c .before .up-to-highest-bid .ensures) (c .if1 .taken))
+
+price-above-requires : tie.Need-price-above-requires
+price-above-requires c κs = within _ _ (c .before .up-to-highest-bid .ensures) (c .if1 .left)
+
+new-requires : tie.Need-new-requires
+new-requires c κs = search needs
+
+enum-known-price : tie.Need-enum-known-price
+enum-known-price c = search needs
+
+enum-told : tie.Need-enum-told
+enum-told c = search needs
 
 returns-2 : tie.Need-returns-2
-unfolding permittedOf
-returns-2 c = answered-no _ _ (c .before .is-bid .ensures) (c .if1 .left)
+returns-2 c = let d = c .before .before .before in sym (ap outcomeOfPrice (c .before .price .given .1)) ∙ permitted-taken _ (price-above-requires (d .before .before) tt) (d .before .price-above .ensures) (d .new .ensures)
+
+returns-3 : tie.Need-returns-3
+returns-3 c = let d = c .before .before in sym (ap outcomeOfPrice (c .enum-told .given .1)) ∙ permitted-taken _ (price-above-requires (d .before .before) tt) (d .before .price-above .ensures) (d .new .ensures)
 
 pub permitted-price-spec : {M : Type 1} → statement M
-permitted-price-spec = tie.close (tie.spec is-bid-requires price-above-requires returns returns-2)
+permitted-price-spec =
+    tie.close (tie.spec up-to-highest-bid-requires returns price-above-requires new-requires enum-known-price enum-told returns-2 returns-3)

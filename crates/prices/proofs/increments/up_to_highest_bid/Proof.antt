@@ -1,0 +1,10 @@
+-- The test is the definition's, with its bound. Assumes nothing.
+use mathlib.Core.Path.{refl}
+use Rattle.prices.proofs.increments.up_to_highest_bid.Statement.{statement}
+use Rattle.prices.proofs.increments.up_to_highest_bid.Tie as tie
+
+returns : tie.Need-returns
+returns c = refl
+
+pub up-to-highest-bid-spec : {M : Type 1} → statement M
+up-to-highest-bid-spec = tie.close (tie.spec returns)
