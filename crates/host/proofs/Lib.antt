@@ -1,2 +1,3 @@
 -- Laws of the calls for hosts.
 pub mod refinement
+pub mod demand3

@@ -14,8 +14,8 @@ use Rattle.host.specs.rules.Host.{CountFits}
 
 fits-at : (w : List ℕ) (n : ℕ) (y z : Bool) → soundWords w ≡ y → leb (length (resting w)) n ≡ z → CountFits (copyOutcome w n)
 fits-at w n true true s h = let b = sound-book w (sym s) refl in subst CountFits (sym (copy-fills w n s h)) (omega (arith, b .few))
-fits-at w n true false s h = subst CountFits (sym (copy-short w n s h)) tt
-fits-at w n false z s h = subst CountFits (sym (copy-broken w n s)) tt
+fits-at w n true false s h = subst CountFits (sym (copy-short w n s h)) (omega arith)
+fits-at w n false z s h = subst CountFits (sym (copy-broken w n s)) (omega arith)
 
 pub copy-fits : (w : List ℕ) (n : ℕ) → CountFits (copyOutcome w n)
 copy-fits w n = fits-at w n (soundWords w) (leb (length (resting w)) n) refl refl

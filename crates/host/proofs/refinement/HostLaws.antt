@@ -1,5 +1,5 @@
--- The calls of a host program: the numbers of refusals, the words that venue_open leaves, the byte count that venue_apply answers.
--- Assumes nothing.
+-- The calls of a host program: the numbers of refusals, what an answer's number says, the words that venue_open leaves, what venue_apply
+-- answers. Assumes nothing.
 use Prim.Native.Nat.{ℕ, suc, _+_, _≤_, _<_}
 use native.Mathlib.Omega.{arith}
 use native.Mathlib.Numerals.{add-one}
@@ -13,7 +13,7 @@ use borrow.Author.Tests.{le-leb, lt-leb}
 use Rattle.numbers.specs.Tests.{pick, All}
 use Rattle.numbers.specs.Answers.{Outcome, gives, refuses, Read}
 use Rattle.numbers.specs.SevenBit.{IsByte}
-use Rattle.numbers.proofs.TestLaws.{by-test, T-true}
+use Rattle.numbers.proofs.TestLaws.{by-test, tests}
 use Rattle.prices.specs.Prices.{legal}
 use Rattle.book.specs.rules.Words.{venueWords, isBook}
 use Rattle.engine.specs.declared.Event.{Event}
@@ -21,41 +21,58 @@ use Rattle.engine.specs.declared.Refusal.{Refusal}
 use Rattle.engine.specs.declared.Refusal.the-variants.{BufferTooShort, EventsSpent, PriceNotLegal, SharesOutOfRange, CodeOutOfRange, IdNotNew, BookFull, NotResting, VenueBroken}
 use Rattle.records.specs.declared.ReadRefusal.{ReadRefusal}
 use Rattle.records.specs.declared.ReadRefusal.the-variants.{MissingByte, BadNumber, UnknownKind, FieldTooLarge}
+use Rattle.engine.specs.declared.Answer.{Answer}
+use Rattle.engine.specs.declared.Answer.the-variants.{Accepted, Refused}
 use Rattle.engine.specs.declared.OpenAnswer.{OpenAnswer}
 use Rattle.engine.specs.declared.OpenAnswer.the-variants.{Fresh, NotOpened}
 use Rattle.engine.specs.rules.Venue.{Venue, opened, opening}
+use Rattle.engine.specs.rules.Refusals.{leastBuffer}
 use Rattle.engine.specs.rules.Run.{Step, stepUnless}
 use Rattle.engine.specs.rules.Records.{recordNumbers, recordAt}
 use Rattle.engine.specs.claims.RoundTrips.{Word}
 use Rattle.records.specs.RecordAnswers.{readRefusalNumber}
 use Rattle.engine.specs.steps.Memory.{refusalIn}
 use Rattle.engine.specs.rules.Layout.{venueOf}
-use Rattle.engine.specs.claims.Calls.{refusalNumber, openedWords, Opens, countOf, Applied}
-use Rattle.host.specs.rules.Host.{hostAnswer, openCount, hostOpening, wordsOpened, HostOpened, CountFits, EventApplied, HostApplied, Demand3OfHosts, NoHostGets16, EqualHostReports}
+use Rattle.engine.specs.claims.Calls.{refusalNumber, outcomeOfAnswer, openedWords, Opens, countOf, Applied}
+use Rattle.host.specs.rules.Host.{hostAnswer, outcomeOf, openCount, hostOpening, wordsOpened, HostOpened, CountFits, AnswerTold, EventApplied, HostApplied}
 use Rattle.engine.proofs.refinement.OpeningLaws.{fresh-length, opened-book-with, opened-venue-with}
 use Rattle.engine.proofs.refinement.ApplyLaws.{step-by-refusal, not-refused}
 use Rattle.engine.proofs.bytes.BoundLaws.{reports-room}
 use Rattle.engine.proofs.bytes.RecordLaws.{record-unique}
-use Rattle.engine.proofs.refinement.CallLaws.{event-lastId, demand3-from, no-16-from, both}
+use Rattle.engine.proofs.refinement.CallLaws.{event-lastId}
 
--- the numbers of refusals are small
+-- refusals are from 1 on, and few enough for a number of 32 bits
 
-pub refusal-small : (r : Refusal) → refusalNumber r ≤ 16
-refusal-small BufferTooShort = omega arith
-refusal-small EventsSpent = omega arith
-refusal-small PriceNotLegal = omega arith
-refusal-small SharesOutOfRange = omega arith
-refusal-small CodeOutOfRange = omega arith
-refusal-small IdNotNew = omega arith
-refusal-small BookFull = omega arith
-refusal-small NotResting = omega arith
-refusal-small VenueBroken = omega arith
+pub refusal-range : (r : Refusal) → (1 ≤ refusalNumber r) × (refusalNumber r < 65_536)
+refusal-range BufferTooShort = (omega arith, omega arith)
+refusal-range EventsSpent = (omega arith, omega arith)
+refusal-range PriceNotLegal = (omega arith, omega arith)
+refusal-range SharesOutOfRange = (omega arith, omega arith)
+refusal-range CodeOutOfRange = (omega arith, omega arith)
+refusal-range IdNotNew = (omega arith, omega arith)
+refusal-range BookFull = (omega arith, omega arith)
+refusal-range NotResting = (omega arith, omega arith)
+refusal-range VenueBroken = (omega arith, omega arith)
 
-pub read-refusal-small : (r : ReadRefusal) → readRefusalNumber r ≤ 16
-read-refusal-small MissingByte = omega arith
-read-refusal-small BadNumber = omega arith
-read-refusal-small UnknownKind = omega arith
-read-refusal-small FieldTooLarge = omega arith
+pub read-refusal-range : (r : ReadRefusal) → (9 ≤ readRefusalNumber r) × (readRefusalNumber r ≤ 12)
+read-refusal-range MissingByte = (omega arith, omega arith)
+read-refusal-range BadNumber = (omega arith, omega arith)
+read-refusal-range UnknownKind = (omega arith, omega arith)
+read-refusal-range FieldTooLarge = (omega arith, omega arith)
+
+-- a number tells what was answered
+
+told-apart : (o : Outcome ℕ) → CountFits o → outcomeOf (hostAnswer o) ≡ o
+unfolding outcomeOf
+told-apart (gives count) f = by-test (λ (o : Outcome ℕ). o ≡ gives count) _ (λ t. refl) (λ t. absurd (omega tests))
+told-apart (refuses n) f = by-test (λ (o : Outcome ℕ). o ≡ refuses n) _ (λ t. absurd (omega tests)) (λ t. ap refuses (omega arith))
+
+module _ (o : Outcome ℕ) {answer : ℕ} (f : CountFits o) (e : answer ≡ hostAnswer o) where
+  pub outcome-told : outcomeOf answer ≡ o
+  outcome-told = ap outcomeOf e ∙ told-apart o f
+
+  pub answer-told : AnswerTold answer
+  answer-told = record { answers = e ∙ ap hostAnswer (sym outcome-told); fits = rw outcome-told f }
 
 -- copying words to the front: one word more
 
@@ -110,31 +127,43 @@ pub read-words : (bytes : List ℕ) {r : Read Event} → ((i : ℕ) → IsByte (
 read-words bytes {r} h e = record-unique bytes 0 r (bytes-all bytes h) e .words
 
 -- the reports of an event fit 16,384 bytes, so its byte count does
-pub applied-fits : {w b w′ b′ : List ℕ} {e : Event} {o : Outcome ℕ} → Word (getD w 4 0) → All Word (recordNumbers e) → Applied w e b o w′ b′ → CountFits o
-unfolding stepUnless venueOf
-applied-fits {w} {b} {w′} {b′} {e} {o} i h a =
-    subst CountFits (sym (a .answers ∙ ap (λ (s : Step). countOf (s .answer)) (step-by-refusal w e (length b)))) (go (refusalIn w e (length b)) refl)
-  where
-    go : (x : Option ℕ) → refusalIn w e (length b) ≡ x → CountFits (countOf ((stepUnless x (venueOf w) e) .answer))
-    go none x = reports-room (venueOf w) e (length b) (not-refused w e (length b) x) (event-lastId (venueOf w) e i h)
-    go (some n) x = tt
+abbrev SmallCount : Outcome ℕ → Type 0
+SmallCount (gives count) = count ≤ leastBuffer
+SmallCount (refuses n) = Unit {0}
+
+module _ {w b w′ b′ : List ℕ} {e : Event} (i : Word (getD w 4 0)) (h : All Word (recordNumbers e)) where
+  small-count : {o : Outcome ℕ} → Applied w e b o w′ b′ → SmallCount o
+  unfolding stepUnless venueOf
+  small-count a =
+      subst SmallCount (sym (a .answers ∙ ap (λ (s : Step). countOf (s .answer)) (step-by-refusal w e (length b)))) (go (refusalIn w e (length b)) refl)
+    where
+      go : (x : Option ℕ) → refusalIn w e (length b) ≡ x → SmallCount (countOf ((stepUnless x (venueOf w) e) .answer))
+      go none x = reports-room (venueOf w) e (length b) (not-refused w e (length b) x) (event-lastId (venueOf w) e i h)
+      go (some n) x = tt
+
+  pub applied-fits : (x : Answer) → Applied w e b (outcomeOfAnswer x) w′ b′ → CountFits (outcomeOfAnswer x)
+  applied-fits (Accepted n) a = small-count a
+  applied-fits (Refused r) a = refusal-range r .0
+
+pub event-applied : {w b w′ b′ : List ℕ} {e : Event} (o : Outcome ℕ) {answer : ℕ} → CountFits o → answer ≡ hostAnswer o → Applied w e b o w′ b′ → EventApplied w e b answer w′ b′
+event-applied o f k a = record { told = answer-told o f k; applied = rw (outcome-told o f k) a }
 
 -- by what was read
 
-pub apply-refused : (w bytes b : List ℕ) {n answer : ℕ} → recordAt bytes 0 ≡ refuses n → answer ≡ hostAnswer (refuses n) → HostApplied w bytes b answer w b
-apply-refused w bytes b e a = rw e (record { answers = a; words = refl; buffer = refl })
+pub apply-refused : (w bytes b : List ℕ) {answer : ℕ} (r : ReadRefusal) → recordAt bytes 0 ≡ refuses (readRefusalNumber r) → answer ≡ hostAnswer (refuses (readRefusalNumber r)) → HostApplied w bytes b answer w b
+apply-refused w bytes b r e a = rw e (record { answers = a; range = read-refusal-range r; words = refl; buffer = refl })
 
 pub apply-read : (bytes : List ℕ) {w b w′ b′ : List ℕ} {answer : ℕ} {r : Read Event} → recordAt bytes 0 ≡ gives r → EventApplied w (r .value) b answer w′ b′ → HostApplied w bytes b answer w′ b′
 apply-read bytes e a = rw e a
 
--- chains of calls
+-- the words that venue_open leaves with the answer 0
 
-record FreshWords (w₀ : List ℕ) (close : ℕ) : Type 0 where
-  legal : T (legal close)
-  layout : T (isBook w₀)
-  venue : venueOf w₀ ≡ opened close
+pub record FreshWords (w₀ : List ℕ) (close : ℕ) : Type 0 where
+  pub legal : T (legal close)
+  pub layout : T (isBook w₀)
+  pub venue : venueOf w₀ ≡ opened close
 
-opened-fresh : {w w₀ : List ℕ} {close : ℕ} → HostOpened w close 0 w₀ → FreshWords w₀ close
+pub opened-fresh : {w w₀ : List ℕ} {close : ℕ} → HostOpened w close 0 w₀ → FreshWords w₀ close
 unfolding hostOpening opening
 opened-fresh {w} {w₀} {close} h =
     by-test Known (leb venueWords (length w)) (λ t. by-test (λ (o : Outcome Venue). Known (openCount o)) (legal close) (λ u a l. known u l) (λ u a l. absurd (omega arith))) (λ t a l. absurd (omega arith)) (h .answers) (h .leaves)
@@ -144,15 +173,3 @@ opened-fresh {w} {w₀} {close} h =
 
     known : T (legal close) → w₀ ≡ openedWords close ++ drop venueWords w → FreshWords w₀ close
     known u l = record { legal = u; layout = rw l (opened-book-with close (drop venueWords w) u); venue = rw l (opened-venue-with close (drop venueWords w) u) }
-
-pub demand3-of-hosts : Demand3OfHosts
-demand3-of-hosts w close w₀ h = let f = opened-fresh h in demand3-from close (f .legal) (f .layout) (f .venue)
-
-pub no-host-gets-16 : NoHostGets16
-no-host-gets-16 w close w₀ h = let f = opened-fresh h in no-16-from close (f .legal) (f .layout) (f .venue)
-
-pub equal-host-reports : EqualHostReports
-equal-host-reports close w v w₀ v₀ h k cs ds w′ v′ c d =
-    let f = opened-fresh h in
-    let g = opened-fresh k in
-    both (T-true _ (f .layout) ∙ sym (T-true _ (g .layout))) (f .venue ∙ sym (g .venue)) c d

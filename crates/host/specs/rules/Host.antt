@@ -1,23 +1,27 @@
 -- The calls of a host program: open, the event, the record check and the permitted price of document 01, each answered by one number.
 -- Assumes nothing.
-use Prim.Native.Nat.{ℕ, _*_, _≤_}
+use Prim.Native.Nat.{ℕ, _*_, _/_, _≤_}
 use mathlib.Core.Path.{_≡_}
-use mathlib.Core.List.{List, _++_, map}
-use lib.Dec.{leb}
+use mathlib.Core.List.{List, _++_}
+use lib.Dec.{leb, ltb}
 use lib.ListN.{length, drop}
-use Rattle.numbers.specs.Tests.{pick, All}
+use Rattle.numbers.specs.Tests.{pick}
 use Rattle.numbers.specs.Answers.{Outcome, gives, refuses, Read}
 use Rattle.book.specs.rules.Words.{venueWords}
 use Rattle.engine.specs.declared.Event.{Event}
 use Rattle.engine.specs.rules.Venue.{Venue, opening}
 use Rattle.engine.specs.rules.Refusals.{leastBuffer}
 use Rattle.engine.specs.rules.Records.{recordAt}
-use Rattle.engine.specs.claims.Calls.{openedWords, Applied, HostCall, Chain, LawfulCalls, LongEnough, SameForBoth}
+use Rattle.engine.specs.claims.Calls.{openedWords, Applied}
 
 -- the number that a host call answers, refusal × 65,536 + byte count: a byte count has no refusal, and a refusal no byte count
 abbrev pub hostAnswer : Outcome ℕ → ℕ
 hostAnswer (gives count) = count
 hostAnswer (refuses n) = n * 65_536
+
+-- how a host reads the number: below 65,536 it is a byte count, any other is a refusal
+unfoldable pub outcomeOf : ℕ → Outcome ℕ
+outcomeOf answer = pick (ltb answer 65_536) (gives answer) (refuses (answer / 65_536))
 
 -- Open
 
@@ -42,21 +46,25 @@ pub record HostOpened (w : List ℕ) (close answer : ℕ) (w′ : List ℕ) : Ty
 
 -- Apply
 
--- the byte count is at most 16,384, so an answer below 65,536 is a byte count, and any other a refusal
+-- a byte count is at most 16,384, a refusal at least 1
 abbrev pub CountFits : Outcome ℕ → Type 0
 CountFits (gives count) = count ≤ leastBuffer
-CountFits (refuses n) = Unit {0}
+CountFits (refuses n) = 1 ≤ n
 
--- one call of apply with the event e, as `Applied` says it, whose answer is given as a number
+-- the number is just one of the two: a byte count below 65,536, or a refusal × 65,536
+pub record AnswerTold (answer : ℕ) : Type 0 where
+  pub answers : answer ≡ hostAnswer (outcomeOf answer)
+  pub fits : CountFits (outcomeOf answer)
+
+-- one call of apply with the event e, as `Applied` says it, the answer read from the number
 pub record EventApplied (w : List ℕ) (e : Event) (b : List ℕ) (answer : ℕ) (w′ b′ : List ℕ) : Type 0 where
-  pub outcome : Outcome ℕ
-  pub applied : Applied w e b outcome w′ b′
-  pub fits : CountFits outcome
-  pub answers : answer ≡ hostAnswer outcome
+  pub told : AnswerTold answer
+  pub applied : Applied w e b (outcomeOf answer) w′ b′
 
--- a record that can't be read is refused, and every word and every byte is as it was
+-- a record that can't be read is refused with 9 to 12, and every word and every byte is as it was
 pub record RecordRefused (n : ℕ) (w b : List ℕ) (answer : ℕ) (w′ b′ : List ℕ) : Type 0 where
   pub answers : answer ≡ hostAnswer (refuses n)
+  pub range : (9 ≤ n) × (n ≤ 12)
   pub words : w′ ≡ w
   pub buffer : b′ ≡ b
 
@@ -80,27 +88,3 @@ endOrZero (refuses n) = 0
 abbrev pub valueOrZero : Outcome ℕ → ℕ
 valueOrZero (gives x) = x
 valueOrZero (refuses n) = 0
-
--- What holds of every chain of calls holds of hosts, whose run may be longer than a venue: from the words that venue_open leaves with the
--- answer 0. A call of venue_apply whose record reads as an event is a call of the chain (`EventApplied`), and any other changes nothing
-
--- demand 3
-abbrev pub Demand3OfHosts : Type 0
-Demand3OfHosts =
-    (w : List ℕ) (close : ℕ) (w₀ : List ℕ) → HostOpened w close 0 w₀ →
-    (cs : List HostCall) (w′ : List ℕ) → Chain w₀ cs w′ → LawfulCalls close cs w′
-
--- "No venue reached from open gets 16"
-abbrev pub NoHostGets16 : Type 0
-NoHostGets16 =
-    (w : List ℕ) (close : ℕ) (w₀ : List ℕ) → HostOpened w close 0 w₀ →
-    (cs : List HostCall) (w₁ : List ℕ) → Chain w₀ cs w₁ →
-    (e : Event) (b : List ℕ) (answer : Outcome ℕ) (w′ b′ : List ℕ) → Applied w₁ e b answer w′ b′ → answer ≡ refuses 16 → ⊥
-
--- equal events, equal reports, in runs of any length
-abbrev pub EqualHostReports : Type 0
-EqualHostReports =
-    (close : ℕ) (w v w₀ v₀ : List ℕ) → HostOpened w close 0 w₀ → HostOpened v close 0 v₀ →
-    (cs ds : List HostCall) (w′ v′ : List ℕ) → Chain w₀ cs w′ → Chain v₀ ds v′ →
-    map (λ (c : HostCall). c .event) cs ≡ map (λ (c : HostCall). c .event) ds → All LongEnough cs → All LongEnough ds →
-    SameForBoth cs ds w′ v′

@@ -7,7 +7,7 @@ use Rattle.numbers.specs.Answers.{refuses}
 use Rattle.engine.specs.declared.Answer.{Answer}
 use Rattle.engine.specs.claims.Calls.{outcomeOfAnswer}
 use Rattle.host.specs.rules.Host.{hostAnswer, CountFits}
-use Rattle.host.proofs.refinement.HostLaws.{refusal-small}
+use Rattle.host.proofs.refinement.HostLaws.{refusal-range}
 use Rattle.host.proofs.calls.answer_number.Statement.{statement}
 use Rattle.host.proofs.calls.answer_number.Tie as tie
 
@@ -18,7 +18,7 @@ number-of-requires : tie.Need-number-of-requires
 number-of-requires c κs = search needs
 
 mul-result : tie.Need-mul-result
-mul-result c = omega (arith, c .number-of .ensures, refusal-small (c .before .before .answer .given .0 .0))
+mul-result c = omega (arith, c .number-of .ensures, refusal-range (c .before .before .answer .given .0 .0))
 
 enum-known-answer-2 : tie.Need-enum-known-answer-2
 enum-known-answer-2 c = search needs

@@ -1,17 +1,23 @@
 -- The answer of apply as a number; its byte count fits. Assumes nothing.
-use borrow.Author.Needs.{needs}
-use Rattle.host.proofs.refinement.HostLaws.{applied-fits}
 use native.Mathlib.Omega.{arith}
+use borrow.Author.Needs.{needs}
+use Rattle.engine.specs.claims.Calls.{outcomeOfAnswer}
+use Rattle.host.specs.rules.Host.{CountFits}
+use Rattle.host.proofs.refinement.HostLaws.{applied-fits, event-applied}
 use Rattle.host.proofs.calls.apply_event.Statement.{statement}
 use Rattle.host.proofs.calls.apply_event.Tie as tie
 
 apply-requires : tie.Need-apply-requires
 apply-requires c κs = search needs
 
+answer-fits : (c : tie.After-slice-known4) → CountFits (outcomeOfAnswer (c .before .before .before .before .apply .result))
+answer-fits c =
+    let called = c .before .before .before .before in
+    let known = called .before .before .before .before in
+    applied-fits (omega (arith, known .slice-known .given 4)) (known .before .pre) (called .apply .result) (called .apply .ensures)
+
 answer-number-requires : tie.Need-answer-number-requires
-answer-number-requires c κs =
-    let s = c .before .before .before .before .before .before .before .before .before in
-    applied-fits (omega (arith, c .before .before .before .before .before .before .before .before .slice-known .given 4)) (s .pre) (c .before .before .before .before .apply .ensures)
+answer-number-requires c κs = answer-fits c
 
 same-length : tie.Need-same-length
 same-length c = search needs
@@ -21,13 +27,8 @@ same-length-2 c = search needs
 
 returns : tie.Need-returns
 returns c =
-    let s = c .before .before .before .before .before .before .before .before .before .before in
-    record {
-      outcome = _;
-      applied = c .before .before .before .before .before .apply .ensures;
-      fits = applied-fits (omega (arith, c .before .before .before .before .before .before .before .before .before .slice-known .given 4)) (s .pre) (c .before .before .before .before .before .apply .ensures);
-      answers = c .answer-number .ensures;
-    }
+    let a = c .before .before .before .before .before .apply in
+    event-applied (outcomeOfAnswer (a .result)) (answer-fits (c .before)) (c .answer-number .ensures) (a .ensures)
 
 pub apply-event-spec : {M : Type 1} → statement M
 apply-event-spec =

@@ -6,7 +6,7 @@ use borrow.Author.Needs.{needs}
 use Rattle.numbers.specs.Answers.{refuses}
 use Rattle.records.specs.RecordAnswers.{outcomeOfRecordRead}
 use Rattle.host.specs.rules.Host.{hostAnswer}
-use Rattle.host.proofs.refinement.HostLaws.{read-refusal-small, read-words, apply-refused, apply-read}
+use Rattle.host.proofs.refinement.HostLaws.{read-refusal-range, read-words, apply-refused, apply-read}
 use Rattle.host.proofs.calls.venue_apply.Statement.{statement}
 use Rattle.host.proofs.calls.venue_apply.Tie as tie
 
@@ -20,7 +20,7 @@ refusal-number-requires : tie.Need-refusal-number-requires
 refusal-number-requires c κs = search needs
 
 mul-result : tie.Need-mul-result
-mul-result c = omega (arith, c .refusal-number .ensures, read-refusal-small (c .before .before .refusal .given .0 .0))
+mul-result c = omega (arith, c .refusal-number .ensures, read-refusal-range (c .before .before .refusal .given .0 .0))
 
 enum-known-event : tie.Need-enum-known-event
 enum-known-event c = search needs
@@ -32,7 +32,7 @@ apply-event-requires c κs =
 
 returns : tie.Need-returns
 returns c =
-    apply-refused _ _ _
+    apply-refused _ _ _ (c .before .before .refusal .given .0 .0)
     (sym (c .before .before .before .before .read-record .ensures) ∙ ap outcomeOfRecordRead (c .before .before .refusal .given .1))
     (ap (λ (n : ℕ). hostAnswer (refuses n)) (c .refusal-number .ensures))
 

@@ -5,7 +5,7 @@ use mathlib.Core.Path.{ap}
 use borrow.Author.Needs.{needs}
 use Rattle.numbers.specs.Answers.{refuses}
 use Rattle.host.specs.rules.Host.{hostAnswer}
-use Rattle.host.proofs.refinement.HostLaws.{refusal-small, opens-length, open-short, open-refused, open-fresh}
+use Rattle.host.proofs.refinement.HostLaws.{refusal-range, opens-length, open-short, open-refused, open-fresh}
 use Rattle.host.proofs.calls.venue_open.Statement.{statement}
 use Rattle.host.proofs.calls.venue_open.Tie as tie
 
@@ -28,7 +28,7 @@ number-of-requires-2 : tie.Need-number-of-requires-2
 number-of-requires-2 c κs = search needs
 
 mul-result-2 : tie.Need-mul-result-2
-mul-result-2 c = omega (arith, c .number-of2 .ensures, refusal-small (c .before .before .answer .given .0 .0))
+mul-result-2 c = omega (arith, c .number-of2 .ensures, refusal-range (c .before .before .answer .given .0 .0))
 
 enum-told : tie.Need-enum-told
 enum-told c = search needs

@@ -1,0 +1,2 @@
+-- The theorems of chains of calls.
+pub mod HostCallLaws

@@ -1,0 +1,2 @@
+-- What is claimed of the calls for hosts.
+pub mod HostCalls
