@@ -2,7 +2,6 @@
 #ifndef VENUE_H
 #define VENUE_H
 
-#include <stdbool.h>
 #include <stddef.h>
 #include <stdint.h>
 
@@ -72,7 +71,8 @@ uint64_t venue_record_check(const uint8_t *bytes, size_t length);
    0 on refusal: the number isn't a bid (3). A bid is 0 (no bid) or a legal price up to 99,999,900. */
 uint32_t venue_permitted_price(uint32_t bid);
 
-/* A resting order. The price is the present one, the shares those left. */
+/* The record of an order: 13 words of 32 bits, 52 bytes with no padding, so that any bytes are a record. In what venue_copy_out writes, the price is
+   the present one and the shares are those left. */
 struct venue_order {
     uint32_t id;
     uint32_t mark;      /* 0 buy, 1 long sell, 2 short, 3 short exempt */
@@ -84,13 +84,13 @@ struct venue_order {
     uint32_t stamp;
     uint32_t price;
     uint32_t entry_bid; /* the national bid at its entry */
-    bool adjusted;      /* priced above its limit by the restriction at its entry, or re-priced since */
-    bool used;          /* with slide once: re-priced to the larger of limit and entry bid */
-    bool clear;         /* the bid was 0 or below the present price when that price was given */
+    uint32_t adjusted;  /* 1: priced above its limit by the restriction at its entry, or re-priced since; else 0 */
+    uint32_t used;      /* 1: with slide once, re-priced to the larger of limit and entry bid; else 0 */
+    uint32_t clear;     /* 1: the bid was 0 or below the present price when that price was given; else 0 */
 };
 
 /* Copies the resting orders to the front of the run, in rising id, and answers how many there are; the records behind them keep their content.
-   Every bool of the run is true or false before the call. A refusal changes no record:
+   The run may hold anything before the call. A refusal changes no record:
    16  the words aren't a venue
    14  the run has fewer records than orders rest */
 uint32_t venue_copy_out(const uint32_t *words, size_t words_length, struct venue_order *run, size_t run_length);

@@ -11,3 +11,4 @@ pub mod SoundBookLaws
 pub mod SoundOrderLaws
 pub mod WalkLaws
 pub mod DepthLaws
+pub mod LentRecords

@@ -1,2 +1,3 @@
+pub mod OrderRecords
 pub mod rules
 pub mod steps

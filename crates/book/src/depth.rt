@@ -1,6 +1,6 @@
 // Depth: the displayed shares at a price on one side, in a lent run of order records.
 use crate::DepthAnswer;
-use crate::Order;
+use crate::OrderRecord;
 use crate::Side;
 ghost use mathlib.Core.Path.{_≡_};
 ghost use Prim.Native.Nat.{_+_, _<_, _≤_, _^_};
@@ -17,8 +17,8 @@ fn on_side(mark: u32, side: Side) -> bool
     }
 }
 
-// Whether the shares of an order count.
-fn counts(o: Order, price: u32, side: Side) -> bool
+// Whether the shares of a record count.
+fn counts(o: OrderRecord, price: u32, side: Side) -> bool
     ensures { λ r. ⌜ r ≡ Rattle.book.specs.rules.Depth.counts price side o ⌝ }
 {
     if o.show == 1 {
@@ -29,7 +29,7 @@ fn counts(o: Order, price: u32, side: Side) -> bool
     false
 }
 
-fn add_shown(sum: u64, o: Order, price: u32, side: Side) -> u64
+fn add_shown(sum: u64, o: OrderRecord, price: u32, side: Side) -> u64
     requires { ⌜ sum + 2 ^ 32 ≤ 2 ^ 63 ⌝ }
     ensures { λ r. ⌜ (r ≡ sum + sharesShown price side o) × (r < sum + 2 ^ 32) ⌝ }
 {
@@ -58,7 +58,7 @@ fn depth_answer(n: usize, sum: u64) -> DepthAnswer
 }
 
 // The displayed shares at a price: any run, any price. The sum takes 64 bits.
-pub fn depth(run: &[Order], price: u32, side: Side) -> DepthAnswer
+pub fn depth(run: &[OrderRecord], price: u32, side: Side) -> DepthAnswer
     ensures { λ r. ⌜ outcomeOfDepth r ≡ depthOf (now (run .entry)) price side ⌝ }
 {
     let n = records_read(run.len());

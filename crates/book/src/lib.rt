@@ -2,6 +2,7 @@
 pub mod depth;
 pub mod place;
 pub mod priority;
+pub mod record;
 pub mod search;
 pub mod sound;
 pub mod trade;
@@ -9,7 +10,6 @@ pub mod words;
 
 // An order as document 01, "Orders", has it: the fields of its entry, then what the venue adds. `limit` is the price of the
 // entry, `price` the present price, and `shares` those left.
-#[repr(C)]
 pub struct Order {
     pub id: u32,
     // 0 buy, 1 long sell, 2 short, 3 short exempt
@@ -32,6 +32,25 @@ pub struct Order {
     pub used: bool,
     // the bid was 0 or below the present price when that price was given
     pub clear: bool,
+}
+
+// An order record of the run that a host lends for copy out and depth: the same fields, one 32-bit word each, so any bytes are a record. Copy out
+// writes a flag as 0 or 1.
+#[repr(C)]
+pub struct OrderRecord {
+    pub id: u32,
+    pub mark: u32,
+    pub limit: u32,
+    pub shares: u32,
+    pub show: u32,
+    pub life: u32,
+    pub slide: u32,
+    pub stamp: u32,
+    pub price: u32,
+    pub entry_bid: u32,
+    pub adjusted: u32,
+    pub used: u32,
+    pub clear: u32,
 }
 
 // Where an order stands in the book, counted from 0.

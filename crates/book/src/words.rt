@@ -124,7 +124,7 @@ pub fn load(w: &[u32], i: usize) -> Order
     }
 }
 
-fn flag_word(b: bool) -> u32
+pub(crate) fn flag_word(b: bool) -> u32
     ensures { λ r. ⌜ r ≡ flagWord b ⌝ }
 {
     if b {

@@ -1,7 +1,8 @@
 // Copy out: the resting orders in a lent run of order records.
 use crate::CopyAnswer;
 use crate::refuse;
-use book::Order;
+use book::OrderRecord;
+use book::record;
 use book::words;
 ghost use mathlib.Core.Path.{_≡_};
 ghost use lib.ListN.{length};
@@ -31,14 +32,14 @@ fn filled(answer: CopyAnswer) -> usize
 }
 
 // Copies the resting orders to the front of a run: any words, any run. A refusal changes no record.
-pub fn copy_out(w: &[u32], run: &mut [Order]) -> CopyAnswer
+pub fn copy_out(w: &[u32], run: &mut [OrderRecord]) -> CopyAnswer
     ensures { λ r. ⌜ (outcomeOfCopy r ≡ copyOutcome (now (w .entry)) (length (now (run .entry)))) × (now (run .exit) ≡ copied (now (w .entry)) (now (run .entry))) ⌝ }
 {
     let answer = copy_answer(w, run.len());
     let count = filled(answer);
     let mut i = 0;
     while i < count {
-        run[i] = words::load(w, i);
+        run[i] = record::record_at(w, i);
         i += 1;
     }
     answer

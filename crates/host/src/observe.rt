@@ -1,7 +1,7 @@
 // Copy out, depth and watch for host programs.
 use crate::calls;
 use book::DepthAnswer;
-use book::Order;
+use book::OrderRecord;
 use book::Side;
 use book::depth;
 use engine::CopyAnswer;
@@ -30,7 +30,7 @@ fn copy_number(answer: CopyAnswer) -> u32
 
 // The resting orders in a run of records, those behind them kept; a refusal changes no record.
 #[no_mangle]
-pub extern "C" fn venue_copy_out(words: &[u32], run: &mut [Order]) -> u32
+pub extern "C" fn venue_copy_out(words: &[u32], run: &mut [OrderRecord]) -> u32
     ensures { λ r. ⌜ (r ≡ hostAnswer (copyOutcome (now (words .entry)) (length (now (run .entry))))) × (now (run .exit) ≡ copied (now (words .entry)) (now (run .entry))) ⌝ }
 {
     copy_number(copy::copy_out(words, run))
@@ -56,7 +56,7 @@ fn depth_number(answer: DepthAnswer) -> u64
 
 // The displayed shares at a price in a run of records; side 0 is a buy, any other a sell.
 #[no_mangle]
-pub extern "C" fn venue_depth(run: &[Order], price: u32, side: u32) -> u64
+pub extern "C" fn venue_depth(run: &[OrderRecord], price: u32, side: u32) -> u64
     ensures { λ r. ⌜ r ≡ depthNumber (depthOf (now (run .entry)) price (sideOf side)) ⌝ }
 {
     depth_number(depth::depth(run, price, side_of(side)))

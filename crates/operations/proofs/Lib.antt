@@ -1,1 +1,3 @@
+-- Walks that the proofs of lend.rt share.
 mod LocalRun
+mod LentDepth

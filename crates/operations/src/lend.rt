@@ -3,7 +3,7 @@
 use crate::CopySeen;
 use crate::WatchSeen;
 use book::DepthAnswer;
-use book::Order;
+use book::OrderRecord;
 use book::Side;
 use book::depth;
 use engine::copy;
@@ -27,7 +27,7 @@ pub fn watch_of(watch: Watch, price: u32) -> WatchSeen
 }
 
 // The orders of words, copied to a run that holds a record four times.
-pub fn copy_of(words: &[u32], o: Order) -> CopySeen
+pub fn copy_of(words: &[u32], o: OrderRecord) -> CopySeen
     ensures { λ r. ⌜ (outcomeOfCopy (r .answer) ≡ copyOutcome (now (words .entry)) 4) × (r .run ≡ copied (now (words .entry)) (replicate 4 o)) ⌝ }
 {
     let mut run = [o; 4];
@@ -35,14 +35,14 @@ pub fn copy_of(words: &[u32], o: Order) -> CopySeen
     CopySeen { answer, run }
 }
 
-pub fn depth_of(run: [Order; 4], price: u32, side: Side) -> DepthAnswer
+pub fn depth_of(run: [OrderRecord; 4], price: u32, side: Side) -> DepthAnswer
     ensures { λ r. ⌜ outcomeOfDepth r ≡ depthOf run price side ⌝ }
 {
     depth::depth(&run, price, side)
 }
 
 // The same of a run that is too long.
-pub fn depth_of_257(run: [Order; 257], price: u32, side: Side) -> DepthAnswer
+pub fn depth_of_257(run: [OrderRecord; 257], price: u32, side: Side) -> DepthAnswer
     ensures { λ r. ⌜ outcomeOfDepth r ≡ depthOf run price side ⌝ }
 {
     depth::depth(&run, price, side)

@@ -2,7 +2,7 @@
 mod lend;
 
 use book::DepthAnswer;
-use book::Order;
+use book::OrderRecord;
 use book::Side;
 use engine::CopyAnswer;
 use engine::Entry;
@@ -22,13 +22,17 @@ struct WatchSeen {
 // A run of records after copy out, and the answer.
 struct CopySeen {
     answer: CopyAnswer,
-    run: [Order; 4],
+    run: [OrderRecord; 4],
 }
 
 // A number and the byte behind it.
 fn print(x: u64, behind: &[u8]) {
     io::print_decimal(STDOUT_FILENO, x);
     io::write_all(STDOUT_FILENO, behind);
+}
+
+fn print_word(x: u32, behind: &[u8]) {
+    print(x as u64, behind);
 }
 
 fn print_refusal(number: u64) {
@@ -44,8 +48,8 @@ fn try_watch(close: u32, phase: u32, price: u32) {
         WatchAnswer::NotLegal => print_refusal(3),
     }
     let watch = seen.watch;
-    print(watch.close as u64, b" ");
-    print(watch.phase as u64, b"\n");
+    print_word(watch.close, b" ");
+    print_word(watch.phase, b"\n");
 }
 
 fn watches() {
@@ -62,33 +66,25 @@ fn watches() {
     try_watch(100_000, 1, 100_000_100);
 }
 
-fn print_flag(flag: bool, behind: &[u8]) {
-    if flag {
-        print(1, behind);
-    } else {
-        print(0, behind);
-    }
-}
-
-fn print_order(o: Order) {
-    print(o.id as u64, b" ");
-    print(o.mark as u64, b" ");
-    print(o.limit as u64, b" ");
-    print(o.shares as u64, b" ");
-    print(o.show as u64, b" ");
-    print(o.life as u64, b" ");
-    print(o.slide as u64, b" ");
-    print(o.stamp as u64, b" ");
-    print(o.price as u64, b" ");
-    print(o.entry_bid as u64, b" ");
-    print_flag(o.adjusted, b" ");
-    print_flag(o.used, b" ");
-    print_flag(o.clear, b"\n");
+fn print_record(o: OrderRecord) {
+    print_word(o.id, b" ");
+    print_word(o.mark, b" ");
+    print_word(o.limit, b" ");
+    print_word(o.shares, b" ");
+    print_word(o.show, b" ");
+    print_word(o.life, b" ");
+    print_word(o.slide, b" ");
+    print_word(o.stamp, b" ");
+    print_word(o.price, b" ");
+    print_word(o.entry_bid, b" ");
+    print_word(o.adjusted, b" ");
+    print_word(o.used, b" ");
+    print_word(o.clear, b"\n");
 }
 
 // A record that no venue has: what copy out keeps must show.
-fn blank() -> Order {
-    Order {
+fn blank() -> OrderRecord {
+    OrderRecord {
         id: 7,
         mark: 7,
         limit: 7,
@@ -99,9 +95,9 @@ fn blank() -> Order {
         stamp: 7,
         price: 7,
         entry_bid: 7,
-        adjusted: true,
-        used: true,
-        clear: true,
+        adjusted: 7,
+        used: 7,
+        clear: 7,
     }
 }
 
@@ -113,15 +109,15 @@ fn print_copy_answer(answer: CopyAnswer) {
     }
 }
 
-fn try_copy(words: &[u32]) -> [Order; 4] {
+fn try_copy(words: &[u32]) -> [OrderRecord; 4] {
     let seen = lend::copy_of(words, blank());
     let answer = seen.answer;
     print_copy_answer(answer);
     let run = seen.run;
-    print_order(run[0]);
-    print_order(run[1]);
-    print_order(run[2]);
-    print_order(run[3]);
+    print_record(run[0]);
+    print_record(run[1]);
+    print_record(run[2]);
+    print_record(run[3]);
     run
 }
 
@@ -147,7 +143,7 @@ fn enter(words: &mut [u32], id: u32, mark: u32, price: u32, shares: u32, show: u
 }
 
 // Copies of an empty book, of three orders, of five, which the run of four is too short for, and of words that are no venue.
-fn copies() -> [Order; 4] {
+fn copies() -> [OrderRecord; 4] {
     io::write_all(STDOUT_FILENO, b"copy out\n");
     let opened = open::open(100_000);
     let mut space = opened.words;
@@ -176,8 +172,8 @@ fn print_depth(answer: DepthAnswer) {
     }
 }
 
-// An order with the fields that depth looks at.
-fn shown(mark: u32, shares: u32, show: u32, price: u32) -> Order {
+// A record with the fields that depth looks at.
+fn shown(mark: u32, shares: u32, show: u32, price: u32) -> OrderRecord {
     let mut o = blank();
     o.mark = mark;
     o.shares = shares;
@@ -186,7 +182,7 @@ fn shown(mark: u32, shares: u32, show: u32, price: u32) -> Order {
     o
 }
 
-fn depths(run: [Order; 4]) {
+fn depths(run: [OrderRecord; 4]) {
     io::write_all(STDOUT_FILENO, b"depth\n");
     print_depth(lend::depth_of(run, 90_000, Side::Buy));
     print_depth(lend::depth_of(run, 90_000, Side::Sell));

@@ -4,8 +4,8 @@ use crate::account::{Account, Resting};
 use crate::counts::{Counts, Lent};
 use crate::model::{
     copy_out, depth, is_legal, permitted_price, read_record, watch_tape, write_record, Event,
-    Order, RecordCheck, Refusal, Report, ReportWriter, Side, Venue, Watch, BUY, LEAST_BUFFER,
-    OPT_OUT, PLACES, SHORT,
+    Order, OrderRecord, RecordCheck, Refusal, Report, ReportWriter, Side, Venue, Watch, BUY,
+    LEAST_BUFFER, OPT_OUT, PLACES, SHORT,
 };
 use crate::sessions::{self, Examiner, Fault};
 use crate::streams::{Session, Step};
@@ -253,7 +253,7 @@ fn check_permitted(bid: u32) -> Result<(), Fault> {
 /// Copy out fills the front of a run that is one record short, exact or one
 /// longer; depth over it finds each displayed share once.
 fn check_copy_out(venue: &Venue, spare: usize) -> Result<(), Fault> {
-    let noise = Order {
+    let noise = OrderRecord {
         id: 7,
         mark: 9,
         limit: 7,
@@ -264,32 +264,33 @@ fn check_copy_out(venue: &Venue, spare: usize) -> Result<(), Fault> {
         stamp: 7,
         price: 7,
         entry_bid: 7,
-        adjusted: true,
-        used: true,
-        clear: true,
+        adjusted: 7,
+        used: 7,
+        clear: 7,
     };
     let len = venue.orders.len();
     let mut run = vec![noise; (len + spare).saturating_sub(1)];
     let answer = copy_out(venue, &mut run);
     if run.len() < len {
         ensure(answer == Err(Refusal::ShortRun), "14")?;
-        return ensure(run.iter().all(|order| *order == noise), "a short run");
+        return ensure(run.iter().all(|record| *record == noise), "a short run");
     }
     ensure(answer == Ok(len), "how many were filled")?;
-    ensure(run[..len] == venue.orders, "the book copy")?;
-    ensure(run[len..].iter().all(|order| *order == noise), "the rest")?;
+    let copy = venue.orders.iter().map(OrderRecord::from);
+    ensure(run[..len].iter().copied().eq(copy), "the book copy")?;
+    ensure(run[len..].iter().all(|record| *record == noise), "the rest")?;
     check_depth(&run)
 }
 
-fn check_depth(run: &[Order]) -> Result<(), Fault> {
-    let mut prices: Vec<u32> = run.iter().map(|order| order.price).collect();
+fn check_depth(run: &[OrderRecord]) -> Result<(), Fault> {
+    let mut prices: Vec<u32> = run.iter().map(|record| record.price).collect();
     prices.sort_unstable();
     prices.dedup();
     for side in [Side::Buy, Side::Sell] {
-        let on_side = |order: &&Order| (order.mark == BUY) == (side == Side::Buy);
-        let sound = run.iter().filter(|order| order.mark <= 3);
-        let shown = sound.filter(on_side).filter(|order| order.show == 1);
-        let total: u64 = shown.map(|order| u64::from(order.shares)).sum();
+        let on_side = |record: &&OrderRecord| (record.mark == BUY) == (side == Side::Buy);
+        let sound = run.iter().filter(|record| record.mark <= 3);
+        let shown = sound.filter(on_side).filter(|record| record.show == 1);
+        let total: u64 = shown.map(|record| u64::from(record.shares)).sum();
         let depths: Result<Vec<u64>, Refusal> = prices
             .iter()
             .map(|&price| depth(run, price, side))

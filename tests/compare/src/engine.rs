@@ -1,6 +1,6 @@
 //! The proved engine behind its C functions, and the layout of its words.
 
-use crate::model::{Order, Refusal, Venue, Watch, PLACES};
+use crate::model::{Order, OrderRecord, Refusal, Venue, Watch, PLACES};
 
 /// A number that include/venue.h defines, as build.rs passes it on.
 const fn number(digits: &str) -> usize {
@@ -40,14 +40,18 @@ extern "C" {
     ) -> u32;
     fn venue_record_check(bytes: *const u8, len: usize) -> u64;
     fn venue_permitted_price(bid: u32) -> u32;
-    fn venue_copy_out(words: *const u32, words_len: usize, run: *mut Order, run_len: usize) -> u32;
-    fn venue_depth(run: *const Order, run_len: usize, price: u32, side: u32) -> u64;
+    fn venue_copy_out(
+        words: *const u32,
+        words_len: usize,
+        run: *mut OrderRecord,
+        run_len: usize,
+    ) -> u32;
+    fn venue_depth(run: *const OrderRecord, run_len: usize, price: u32, side: u32) -> u64;
     fn venue_watch(watch: *mut Watch, price: u32) -> u32;
 }
 
-/// The header's `struct venue_order` has ten words and three bools, filled up
-/// to a word.
-const _: () = assert!(size_of::<Order>() == 44 && size_of::<Watch>() == 8);
+/// The header's `struct venue_order` has thirteen words.
+const _: () = assert!(size_of::<OrderRecord>() == 52 && size_of::<Watch>() == 8);
 
 /// Makes the words a fresh venue. Answers as `apply`, with no reports.
 pub fn open(words: &mut [u32], close: u32) -> u32 {
@@ -85,7 +89,7 @@ pub fn permitted_price(bid: u32) -> u32 {
 
 /// Copies the orders to the front of the run. Answers refusal × 65,536 + how
 /// many. The words are lent for writing too, so that a write would be seen.
-pub fn copy_out(words: &mut [u32], run: &mut [Order]) -> u32 {
+pub fn copy_out(words: &mut [u32], run: &mut [OrderRecord]) -> u32 {
     // SAFETY: pointers and lengths are those of slices lent for the call.
     unsafe { venue_copy_out(words.as_mut_ptr(), words.len(), run.as_mut_ptr(), run.len()) }
 }
@@ -93,7 +97,7 @@ pub fn copy_out(words: &mut [u32], run: &mut [Order]) -> u32 {
 /// The displayed shares at a price, of buys where the side is 0 and else of
 /// sells; 2^64 - 1 if refused. The run is lent for writing too, so that a write
 /// would be seen.
-pub fn depth(run: &mut [Order], price: u32, side: u32) -> u64 {
+pub fn depth(run: &mut [OrderRecord], price: u32, side: u32) -> u64 {
     // SAFETY: pointer and length are those of a slice lent for the call.
     unsafe { venue_depth(run.as_mut_ptr(), run.len(), price, side) }
 }

@@ -7,7 +7,7 @@ mod form;
 mod prices;
 mod venue;
 
-pub use book::{copy_out, depth, Order, Side, BUY, OPT_OUT, PLACES, SHORT};
+pub use book::{copy_out, depth, Order, OrderRecord, Side, BUY, OPT_OUT, PLACES, SHORT};
 pub use form::{
     read_number, read_record, write_number, write_record, Entry, Event, Report, ReportWriter,
     LONGEST_NUMBER,

@@ -4,7 +4,7 @@ use crate::compare::same;
 use crate::counts::Counts;
 use crate::engine;
 use crate::model::{
-    copy_out, depth, watch_tape, Order, Refusal, Side, Venue, Watch, BUY, PLACES, SHORT,
+    copy_out, depth, watch_tape, OrderRecord, Refusal, Side, Venue, Watch, BUY, PLACES, SHORT,
 };
 use crate::rng::Rng;
 use crate::sessions::Fault;
@@ -26,15 +26,15 @@ const REDRAWN: usize = 12;
 /// The records that runs are lent from, the same nonsense on both sides before
 /// each look.
 pub struct Observer {
-    noise: Vec<Order>,
-    engine: Vec<Order>,
-    model: Vec<Order>,
+    noise: Vec<OrderRecord>,
+    engine: Vec<OrderRecord>,
+    model: Vec<OrderRecord>,
 }
 
 impl Observer {
     pub fn new() -> Self {
         let mut rng = Rng::new(0);
-        let noise: Vec<Order> = (0..RECORDS).map(|_| any_record(&mut rng)).collect();
+        let noise: Vec<OrderRecord> = (0..RECORDS).map(|_| any_record(&mut rng)).collect();
         Observer {
             engine: noise.clone(),
             model: noise.clone(),
@@ -150,10 +150,11 @@ fn place_run(rng: &mut Rng, length: usize) -> Range<usize> {
     at..at + length
 }
 
-/// A record of nonsense: mostly displayed, at one of few prices.
-fn any_record(rng: &mut Rng) -> Order {
+/// A record of nonsense: mostly displayed, at one of few prices; flags are any
+/// words.
+fn any_record(rng: &mut Rng) -> OrderRecord {
     let (odd, any) = (odd_number(rng), rng.word());
-    Order {
+    OrderRecord {
         id: any,
         mark: rng.pick(&[BUY, BUY, 1, SHORT, 3, 4, odd]),
         limit: odd_number(rng),
@@ -164,9 +165,9 @@ fn any_record(rng: &mut Rng) -> Order {
         stamp: rng.word(),
         price: rng.pick(&[0, 1, 90_000, 90_000, 90_001, u32::MAX, odd]),
         entry_bid: odd_number(rng),
-        adjusted: rng.one_in(2),
-        used: rng.one_in(2),
-        clear: rng.one_in(2),
+        adjusted: rng.word(),
+        used: rng.word(),
+        clear: rng.word(),
     }
 }
 

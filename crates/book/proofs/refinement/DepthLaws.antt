@@ -7,13 +7,13 @@ use native.Mathlib.Omega.{arith}
 use native.Mathlib.Numerals.{add-one}
 use lib.Dec.{ltb, leb}
 use lib.ListN.{length, getD}
-use borrow.Author.Tests.{ltb-false, lt-leb, le-leb}
+use borrow.Author.Tests.{ltb-false, le-leb}
 use Rattle.numbers.specs.Tests.{pick}
 use Rattle.numbers.proofs.TestLaws.{answered-yes, answered-no}
-use Rattle.book.specs.declared.Order.{Order}
+use Rattle.book.specs.declared.OrderRecord.{OrderRecord}
 use Rattle.book.specs.declared.Side.{Side}
 use Rattle.book.specs.declared.Side.the-variants.{Sell}
-use Rattle.book.specs.rules.Words.{emptyOrder}
+use Rattle.book.specs.OrderRecords.{emptyRecord}
 use Rattle.book.specs.rules.Depth.{onSide, counts, sharesShown, allShown, depthOutcome, depthOf, recordsRead}
 
 -- ---- a sell has a mark from 1 to 3
@@ -25,34 +25,34 @@ pub sell-other : (mark : ℕ) → (mark ≡ 0 → ⊥) → onSide Sell mark ≡ 
 unfolding onSide
 sell-other mark ne = simp (le-leb 1 mark (omega arith))
 
--- ---- an order counts with all its shares, or with none
-pub shown-counted : {t : Bool} (p : ℕ) (s : Side) (o : Order) → t ≡ counts p s o → t ≡ true → sharesShown p s o ≡ o .shares
+-- ---- a record counts with all its shares, or with none
+pub shown-counted : {t : Bool} (p : ℕ) (s : Side) (o : OrderRecord) → t ≡ counts p s o → t ≡ true → sharesShown p s o ≡ o .shares
 unfolding sharesShown
 shown-counted p s o e y = sym (answered-yes (o .shares) 0 e y)
 
-pub shown-uncounted : {t : Bool} (p : ℕ) (s : Side) (o : Order) → t ≡ counts p s o → t ≡ false → sharesShown p s o ≡ 0
+pub shown-uncounted : {t : Bool} (p : ℕ) (s : Side) (o : OrderRecord) → t ≡ counts p s o → t ≡ false → sharesShown p s o ≡ 0
 unfolding sharesShown
 shown-uncounted p s o e n = sym (answered-no (o .shares) 0 e n)
 
 -- ---- the sum over the first i records
-unfoldable pub shownTo : ℕ → ℕ → Side → List Order → ℕ
+unfoldable pub shownTo : ℕ → ℕ → Side → List OrderRecord → ℕ
 shownTo zero p s l = 0
-shownTo (suc i) p s l = shownTo i p s l + sharesShown p s (getD l i emptyOrder)
+shownTo (suc i) p s l = shownTo i p s l + sharesShown p s (getD l i emptyRecord)
 
-pub shown-none : (p : ℕ) (s : Side) (l : List Order) → 0 ≡ shownTo 0 p s l
+pub shown-none : (p : ℕ) (s : Side) (l : List OrderRecord) → 0 ≡ shownTo 0 p s l
 unfolding shownTo
 shown-none p s l = refl
 
-pub shown-next : (i p : ℕ) (s : Side) (l : List Order) → shownTo i p s l + sharesShown p s (getD l i emptyOrder) ≡ shownTo (i + 1) p s l
+pub shown-next : (i p : ℕ) (s : Side) (l : List OrderRecord) → shownTo i p s l + sharesShown p s (getD l i emptyRecord) ≡ shownTo (i + 1) p s l
 unfolding shownTo
 shown-next i p s l = rw (add-one i)
 
-shown-cons : (i p : ℕ) (s : Side) (o : Order) (l : List Order) → shownTo (suc i) p s (o ∷ l) ≡ sharesShown p s o + shownTo i p s l
+shown-cons : (i p : ℕ) (s : Side) (o : OrderRecord) (l : List OrderRecord) → shownTo (suc i) p s (o ∷ l) ≡ sharesShown p s o + shownTo i p s l
 unfolding shownTo
 shown-cons zero p s o l = omega arith
 shown-cons (suc i) p s o l = omega (arith, shown-cons i p s o l)
 
-shown-all : (p : ℕ) (s : Side) (l : List Order) → shownTo (length l) p s l ≡ allShown p s l
+shown-all : (p : ℕ) (s : Side) (l : List OrderRecord) → shownTo (length l) p s l ≡ allShown p s l
 unfolding shownTo allShown
 shown-all p s [] = refl
 shown-all p s (o ∷ l) = shown-cons (length l) p s o l ∙ ap (λ (n : ℕ). sharesShown p s o + n) (shown-all p s l)
@@ -66,10 +66,10 @@ few-at n false e = let h : n ≤ 256 = ltb-false 256 n e in rw e (omega arith, o
 pub read-few : (n : ℕ) → (recordsRead n ≤ 256) × (recordsRead n ≤ n)
 read-few n = few-at n (ltb 256 n) refl
 
-depth-at : (p : ℕ) (s : Side) (l : List Order) (y : Bool) → ltb 256 (length l) ≡ y → depthOutcome (length l) (shownTo (recordsRead (length l)) p s l) ≡ depthOf l p s
+depth-at : (p : ℕ) (s : Side) (l : List OrderRecord) (y : Bool) → ltb 256 (length l) ≡ y → depthOutcome (length l) (shownTo (recordsRead (length l)) p s l) ≡ depthOf l p s
 unfolding depthOutcome depthOf recordsRead pick
 depth-at p s l true e = rw e
 depth-at p s l false e = rw (e, shown-all p s l)
 
-pub depth-is : (p : ℕ) (s : Side) (l : List Order) → depthOutcome (length l) (shownTo (recordsRead (length l)) p s l) ≡ depthOf l p s
+pub depth-is : (p : ℕ) (s : Side) (l : List OrderRecord) → depthOutcome (length l) (shownTo (recordsRead (length l)) p s l) ≡ depthOf l p s
 depth-is p s l = depth-at p s l (ltb 256 (length l)) refl

@@ -6,7 +6,7 @@ use lib.Dec.{eqb, leb, ltb}
 use lib.ListN.{length}
 use Rattle.numbers.specs.Tests.{pick}
 use Rattle.numbers.specs.Answers.{Outcome, gives, refuses}
-use Rattle.book.specs.declared.Order.{Order}
+use Rattle.book.specs.declared.OrderRecord.{OrderRecord}
 use Rattle.book.specs.declared.Side.{Side}
 use Rattle.book.specs.declared.Side.the-variants.{Buy, Sell}
 use Rattle.book.specs.declared.DepthAnswer.{DepthAnswer}
@@ -17,15 +17,15 @@ unfoldable pub onSide : Side → ℕ → Bool
 onSide Buy mark = eqb mark 0
 onSide Sell mark = leb 1 mark && leb mark 3
 
--- "the displayed shares whose present price that is": whether the shares of an order count, and how many do. "any show but 1 as nothing"
-unfoldable pub counts : ℕ → Side → Order → Bool
+-- "the displayed shares whose present price that is": whether the shares of a record count, and how many do. "any show but 1 as nothing"
+unfoldable pub counts : ℕ → Side → OrderRecord → Bool
 counts p s o = eqb (o .show) 1 && (eqb (o .price) p && onSide s (o .mark))
 
-unfoldable pub sharesShown : ℕ → Side → Order → ℕ
+unfoldable pub sharesShown : ℕ → Side → OrderRecord → ℕ
 sharesShown p s o = pick (counts p s o) (o .shares) 0
 
 -- over the whole run
-unfoldable pub allShown : ℕ → Side → List Order → ℕ
+unfoldable pub allShown : ℕ → Side → List OrderRecord → ℕ
 allShown p s [] = 0
 allShown p s (o ∷ os) = sharesShown p s o + allShown p s os
 
@@ -34,7 +34,7 @@ unfoldable pub depthOutcome : ℕ → ℕ → Outcome ℕ
 depthOutcome n sum = pick (ltb 256 n) (refuses 15) (gives sum)
 
 -- "takes such a run, a price and buy or sell"
-unfoldable pub depthOf : List Order → ℕ → Side → Outcome ℕ
+unfoldable pub depthOf : List OrderRecord → ℕ → Side → Outcome ℕ
 depthOf run p s = depthOutcome (length run) (allShown p s run)
 
 -- the paper's terms for an answer

@@ -5,16 +5,17 @@ use native.Mathlib.Nat.{not-suc-le-zero, le-of-suc-le-suc}
 use native.Mathlib.Omega.{arith}
 use native.Mathlib.Numerals.{add-one}
 use mathlib.Core.Bool.{Bool, true, false}
-use mathlib.Core.List.{List, [], _∷_, _++_}
+use mathlib.Core.List.{List, [], _∷_, _++_, map}
 use lib.Dec.{leb}
 use lib.ListN.{length, getD, set, drop, length-set}
 use borrow.Author.Tests.{leb-true}
 use Rattle.numbers.specs.Tests.{pick}
 use Rattle.numbers.specs.Answers.{gives, refuses}
 use Rattle.numbers.proofs.TestLaws.{answered-T}
-use Rattle.book.specs.declared.Order.{Order}
+use Rattle.book.specs.declared.OrderRecord.{OrderRecord}
 use Rattle.book.specs.rules.Words.{emptyOrder, resting}
 use Rattle.book.specs.steps.BookSteps.{Book}
+use Rattle.book.specs.OrderRecords.{recordOf}
 use Rattle.engine.specs.rules.Layout.{soundWords}
 use Rattle.engine.specs.rules.Copy.{copyOutcome, copied, filledBy}
 use Rattle.engine.proofs.refinement.RefuseLaws.{words-ordered}
@@ -60,28 +61,29 @@ module _ {A : Type 0} where
   fill-cons zero f x l = refl
   fill-cons (suc i) f x l = ap (λ (m : List A). set m (suc i) (f (suc i))) (fill-cons i f x l)
 
-  fill-all : (xs l : List A) (e : A) → length xs ≤ length l → fillTo (length xs) (λ k. getD xs k e) l ≡ xs ++ drop (length xs) l
+  -- with each element of another list, under g
+  fill-all : {B : Type 0} (g : B → A) (xs : List B) (l : List A) (e : B) → length xs ≤ length l → fillTo (length xs) (λ k. g (getD xs k e)) l ≡ map g xs ++ drop (length xs) l
   unfolding fillTo
-  fill-all [] l e h = refl
-  fill-all (x ∷ xs) [] e h = absurd (not-suc-le-zero h)
-  fill-all (x ∷ xs) (y ∷ l) e h =
-      fill-cons (length xs) (λ k. getD (x ∷ xs) k e) y l ∙ ap (λ (m : List A). x ∷ m) (fill-all xs l e (le-of-suc-le-suc h))
+  fill-all g [] l e h = refl
+  fill-all g (x ∷ xs) [] e h = absurd (not-suc-le-zero h)
+  fill-all g (x ∷ xs) (y ∷ l) e h =
+      fill-cons (length xs) (λ k. g (getD (x ∷ xs) k e)) y l ∙ ap (λ (m : List A). g x ∷ m) (fill-all g xs l e (le-of-suc-le-suc h))
 
 -- ---- what copy out fills
-abbrev pub orderOut : List ℕ → ℕ → Order
-orderOut w i = getD (resting w) i emptyOrder
+abbrev pub recordOut : List ℕ → ℕ → OrderRecord
+recordOut w i = recordOf (getD (resting w) i emptyOrder)
 
 abbrev pub copies : List ℕ → ℕ → ℕ
 copies w n = filledBy (copyOutcome w n)
 
 -- by how the two tests come out
-copy-at : (w : List ℕ) (l : List Order) (y z : Bool) → soundWords w ≡ y → leb (length (resting w)) (length l) ≡ z → fillTo (copies w (length l)) (orderOut w) l ≡ copied w l
+copy-at : (w : List ℕ) (l : List OrderRecord) (y z : Bool) → soundWords w ≡ y → leb (length (resting w)) (length l) ≡ z → fillTo (copies w (length l)) (recordOut w) l ≡ copied w l
 unfolding copied
-copy-at w l true true s h = rw (copy-fills w (length l) s h) (fill-all (resting w) l emptyOrder (leb-true (length (resting w)) (length l) h))
-copy-at w l true false s h = rw (copy-short w (length l) s h) (sym (fill-none (orderOut w) l))
-copy-at w l false z s h = rw (copy-broken w (length l) s) (sym (fill-none (orderOut w) l))
+copy-at w l true true s h = rw (copy-fills w (length l) s h) (fill-all recordOf (resting w) l emptyOrder (leb-true (length (resting w)) (length l) h))
+copy-at w l true false s h = rw (copy-short w (length l) s h) (sym (fill-none (recordOut w) l))
+copy-at w l false z s h = rw (copy-broken w (length l) s) (sym (fill-none (recordOut w) l))
 
-pub copy-is : (w : List ℕ) (l : List Order) → fillTo (copies w (length l)) (orderOut w) l ≡ copied w l
+pub copy-is : (w : List ℕ) (l : List OrderRecord) → fillTo (copies w (length l)) (recordOut w) l ≡ copied w l
 copy-is w l = copy-at w l (soundWords w) (leb (length (resting w)) (length l)) refl refl
 
 -- a turn reads an order that rests, and writes within the run
@@ -99,5 +101,5 @@ within-at w n i false z s h lt = let l : i < 0 = rw (copy-broken w n s) at lt in
 pub turn-within : (w : List ℕ) (n i : ℕ) → i < copies w n → Within w n i
 turn-within w n i lt = within-at w n i (soundWords w) (leb (length (resting w)) n) refl refl lt
 
-pub copied-length : (w : List ℕ) (l : List Order) → length (copied w l) ≡ length l
-copied-length w l = ap length (sym (copy-is w l)) ∙ fill-length (copies w (length l)) (orderOut w) l
+pub copied-length : (w : List ℕ) (l : List OrderRecord) → length (copied w l) ≡ length l
+copied-length w l = ap length (sym (copy-is w l)) ∙ fill-length (copies w (length l)) (recordOut w) l

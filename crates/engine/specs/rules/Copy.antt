@@ -1,12 +1,13 @@
 -- Copy out: document 01, "Copy out". Assumes nothing.
 use Prim.Native.Nat.{ℕ}
-use mathlib.Core.List.{List, _++_}
+use mathlib.Core.List.{List, _++_, map}
 use lib.Dec.{leb}
 use lib.ListN.{length, drop}
 use Rattle.numbers.specs.Tests.{pick}
 use Rattle.numbers.specs.Answers.{Outcome, gives, refuses}
-use Rattle.book.specs.declared.Order.{Order}
+use Rattle.book.specs.declared.OrderRecord.{OrderRecord}
 use Rattle.book.specs.rules.Words.{resting}
+use Rattle.book.specs.OrderRecords.{recordOf}
 use Rattle.engine.specs.declared.CopyAnswer.{CopyAnswer}
 use Rattle.engine.specs.declared.CopyAnswer.the-variants.{Filled, RunTooShort, VenueBroken}
 use Rattle.engine.specs.rules.Layout.{soundWords}
@@ -19,12 +20,12 @@ copyOutcome w n =
     (refuses 16)
 
 -- the run after it: "filled in id order, the rest kept". The book stands in id order, and a refusal changes no record
-abbrev pub runAfter : Outcome ℕ → List Order → List Order → List Order
-runAfter (gives n) orders run = orders ++ drop n run
-runAfter (refuses k) orders run = run
+abbrev pub runAfter : Outcome ℕ → List OrderRecord → List OrderRecord → List OrderRecord
+runAfter (gives n) records run = records ++ drop n run
+runAfter (refuses k) records run = run
 
-unfoldable pub copied : List ℕ → List Order → List Order
-copied w run = runAfter (copyOutcome w (length run)) (resting w) run
+unfoldable pub copied : List ℕ → List OrderRecord → List OrderRecord
+copied w run = runAfter (copyOutcome w (length run)) (map recordOf (resting w)) run
 
 -- the paper's terms for an answer
 abbrev pub outcomeOfCopy : CopyAnswer → Outcome ℕ

@@ -1,4 +1,4 @@
-//! "Orders": the order record, the best opposite order, copy out and depth.
+//! "Orders": resting orders, the best opposite order, copy out and depth.
 
 use super::prices::{is_bid, is_legal, HIGHEST};
 use super::venue::MOST_SHARES;
@@ -23,10 +23,8 @@ pub const DAY: u32 = 0;
 pub const IMMEDIATE: u32 = 1;
 
 /// A resting order: the entry's fields and what "The venue adds". "A resting
-/// order's shares are those left." Laid out as include/venue.h says, so that
-/// runs of it can be lent to the engine too.
+/// order's shares are those left."
 #[derive(Clone, Copy, Debug, PartialEq, Eq)]
-#[repr(C)]
 pub struct Order {
     pub id: u32,
     pub mark: u32,
@@ -63,6 +61,47 @@ impl Order {
     fn rank(&self, distance: u32) -> u64 {
         let hidden = u64::from(self.show != DISPLAYED);
         u64::from(distance) << 33 | hidden << 32 | u64::from(self.stamp)
+    }
+}
+
+/// A record of a lent run, laid out as include/venue.h says, so that runs of it
+/// can be lent to the engine too: any words, a flag as 0 or 1 where copy out
+/// wrote it.
+#[derive(Clone, Copy, Debug, PartialEq, Eq)]
+#[repr(C)]
+pub struct OrderRecord {
+    pub id: u32,
+    pub mark: u32,
+    pub limit: u32,
+    pub shares: u32,
+    pub show: u32,
+    pub life: u32,
+    pub slide: u32,
+    pub stamp: u32,
+    pub price: u32,
+    pub entry_bid: u32,
+    pub adjusted: u32,
+    pub used: u32,
+    pub clear: u32,
+}
+
+impl From<&Order> for OrderRecord {
+    fn from(order: &Order) -> Self {
+        OrderRecord {
+            id: order.id,
+            mark: order.mark,
+            limit: order.limit,
+            shares: order.shares,
+            show: order.show,
+            life: order.life,
+            slide: order.slide,
+            stamp: order.stamp,
+            price: order.price,
+            entry_bid: order.entry_bid,
+            adjusted: order.adjusted.into(),
+            used: order.used.into(),
+            clear: order.clear.into(),
+        }
     }
 }
 
@@ -113,13 +152,15 @@ fn best(orders: &[Order], reach: impl Fn(&Order) -> (bool, u32)) -> Option<usize
 /// "a lent run of order records, filled in id order, the rest kept, the result
 /// being how many were filled; 16 first, then 14 if the run is shorter than the
 /// book"
-pub fn copy_out(venue: &Venue, run: &mut [Order]) -> Result<usize, Refusal> {
+pub fn copy_out(venue: &Venue, run: &mut [OrderRecord]) -> Result<usize, Refusal> {
     if !venue.is_sound() {
         return Err(Refusal::VenueRecord);
     }
     let filled = venue.orders.len();
     let front = run.get_mut(..filled).ok_or(Refusal::ShortRun)?;
-    front.copy_from_slice(&venue.orders);
+    for (record, order) in front.iter_mut().zip(&venue.orders) {
+        *record = order.into();
+    }
     Ok(filled)
 }
 
@@ -132,18 +173,18 @@ pub enum Side {
 /// "the displayed shares whose present price that is: 15 if the run has over
 /// 256 records. Mark 0 counts as a buy, 1 to 3 as a sell, any other mark and
 /// any show but 1 as nothing."
-pub fn depth(run: &[Order], price: u32, side: Side) -> Result<u64, Refusal> {
+pub fn depth(run: &[OrderRecord], price: u32, side: Side) -> Result<u64, Refusal> {
     if run.len() > PLACES {
         return Err(Refusal::LongRun);
     }
-    let counts = |order: &&Order| {
+    let counts = |record: &&OrderRecord| {
         let of_side = match side {
-            Side::Buy => order.mark == BUY,
-            Side::Sell => order.mark != BUY && order.mark <= HIGHEST_MARK,
+            Side::Buy => record.mark == BUY,
+            Side::Sell => record.mark != BUY && record.mark <= HIGHEST_MARK,
         };
-        of_side && order.show == DISPLAYED && order.price == price
+        of_side && record.show == DISPLAYED && record.price == price
     };
-    let shares = run.iter().filter(counts).map(|order| order.shares);
+    let shares = run.iter().filter(counts).map(|record| record.shares);
     Ok(shares.map(u64::from).sum())
 }
 
@@ -169,6 +210,10 @@ mod tests {
         }
     }
 
+    fn record(id: u32, mark: u32, show: u32) -> OrderRecord {
+        (&order(id, mark, show)).into()
+    }
+
     #[test]
     fn copy_out_refuses_in_order_and_keeps_the_rest() {
         let venue = Venue {
@@ -178,12 +223,16 @@ mod tests {
             orders: vec![order(1, BUY, 1), order(2, BUY, 0)],
             ..Venue::fresh(100_000)
         };
-        let noise = order(9, 9, 9);
+        let noise = OrderRecord {
+            clear: 9,
+            ..record(9, 9, 9)
+        };
         let mut run = [noise; 3];
         assert_eq!(copy_out(&venue, &mut run[..1]), Err(Refusal::ShortRun));
         assert_eq!(run, [noise; 3]);
         assert_eq!(copy_out(&venue, &mut run), Ok(2));
-        assert_eq!(run, [venue.orders[0], venue.orders[1], noise]);
+        assert_eq!(run, [record(1, BUY, 1), record(2, BUY, 0), noise]);
+        assert_eq!((run[0].adjusted, run[0].used, run[0].clear), (0, 0, 1));
         let broken = Venue { phase: 3, ..venue };
         assert_eq!(copy_out(&broken, &mut []), Err(Refusal::VenueRecord));
     }
@@ -191,15 +240,15 @@ mod tests {
     #[test]
     fn depth_counts_displayed_shares_of_a_side_at_a_price() {
         let marks = [BUY, 1, SHORT, 3, 4, u32::MAX];
-        let run: Vec<Order> = marks.map(|mark| order(1, mark, 1)).into();
+        let run = marks.map(|mark| record(1, mark, 1));
         assert_eq!(depth(&run, 90_000, Side::Buy), Ok(1_000_000));
         assert_eq!(depth(&run, 90_000, Side::Sell), Ok(3_000_000));
         assert_eq!(depth(&run, 90_100, Side::Sell), Ok(0));
-        let shows = [0, 2, u32::MAX].map(|show| order(1, BUY, show));
+        let shows = [0, 2, u32::MAX].map(|show| record(1, BUY, show));
         assert_eq!(depth(&shows, 90_000, Side::Buy), Ok(0));
-        let large = Order {
+        let large = OrderRecord {
             shares: u32::MAX,
-            ..order(1, BUY, 1)
+            ..record(1, BUY, 1)
         };
         let sum = 256 * u64::from(u32::MAX);
         assert_eq!(depth(&[large; 256], 90_000, Side::Buy), Ok(sum));

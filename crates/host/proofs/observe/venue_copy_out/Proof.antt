@@ -37,8 +37,8 @@ use denote.Triple.Walked.{says, Stays, stay-none-slice, gave-slice, walkOf, AllG
 use denote.Triple.Clauses.{ensured, lasts}
 use denote.Exit.{yes}
 use Rattle.prices.proofs.Returned.{returned}
-use Rattle.book.specs.declared.Order.{Order}
-use Rattle.book.proofs.Order as T
+use Rattle.book.specs.declared.OrderRecord.{OrderRecord}
+use Rattle.book.proofs.refinement.LentRecords as R
 use Rattle.engine.specs.declared.CopyAnswer.{CopyAnswer}
 use Rattle.engine.specs.rules.Copy.{copyOutcome, copied, outcomeOfCopy}
 use Rattle.engine.proofs.refinement.CopyLaws.{copied-length}
@@ -60,10 +60,10 @@ use Rattle.host.proofs.observe.venue_copy_out.Statement as stated
 use Rattle.host.proofs.observe.venue_copy_out.Code as code
 
 abbrev Arg : Type 0
-Arg = RefT (List ℕ) × (RefT (List Order) × Unit {0})
+Arg = RefT (List ℕ) × (RefT (List OrderRecord) × Unit {0})
 
 abbrev stayed : Stays (f.ended .signature .params) (f.ended .kept)
-stayed = (stay-none-slice (0 ∷ []) tt (plain (λ _. u32)) yes, (gave-slice (1 ∷ []) tt (plain (λ _. T.the-row)), tt))
+stayed = (stay-none-slice (0 ∷ []) tt (plain (λ _. u32)) yes, (gave-slice (1 ∷ []) tt (plain (λ _. R.the-row)), tt))
 
 module _ {M : Type 1} (𝓤 : URA M) (H : Heap 𝓤) (A : Atoms 𝓤) (mem : Memory → SProp 𝓤) (run : Routine → Fun 𝓤) where
   -- the contracts that the proof cites
@@ -73,12 +73,12 @@ module _ {M : Type 1} (𝓤 : URA M) (H : Heap 𝓤) (A : Atoms 𝓤) (mem : Mem
   abbrev Number : Contract 𝓤
   Number = tripleOf 𝓤 H A k.signature (k.spec 𝓤 H A mem run)
 
-module _ {M : Type 1} (𝓤 : URA M) (H : Heap 𝓤) (A : Atoms 𝓤) (W : Given 𝓤 H A) (at-mem : Memory → SProp 𝓤) (run : Routine → Fun 𝓤) (κ κ′ : Lft) (q q′ : Share) (b o : ℕ) (γ : GName) (ys : List ℕ) (b′ o′ : ℕ) (γ′ : GName) (zs : List Order)
-    (w-room : Room u32 (length ys)) (room : Room T.the-row (length zs)) where
+module _ {M : Type 1} (𝓤 : URA M) (H : Heap 𝓤) (A : Atoms 𝓤) (W : Given 𝓤 H A) (at-mem : Memory → SProp 𝓤) (run : Routine → Fun 𝓤) (κ κ′ : Lft) (q q′ : Share) (b o : ℕ) (γ : GName) (ys : List ℕ) (b′ o′ : ℕ) (γ′ : GName) (zs : List OrderRecord)
+    (w-room : Room u32 (length ys)) (room : Room R.the-row (length zs)) where
   abbrev xw : RefT (List ℕ)
   xw = record { ptr = (b, o); name = γ; now = ys }
 
-  abbrev xo : RefT (List Order)
+  abbrev xo : RefT (List OrderRecord)
   xo = record { ptr = (b′, o′); name = γ′; now = zs }
 
   abbrev x : Arg
@@ -93,7 +93,7 @@ module _ {M : Type 1} (𝓤 : URA M) (H : Heap 𝓤) (A : Atoms 𝓤) (W : Given
   abbrev at : List Val × (List Val × Unit {0})
   at = (wv ∷ [], (ov ∷ [], tt))
 
-  abbrev out : List Order
+  abbrev out : List OrderRecord
   out = copied ys zs
 
   abbrev Post : Val → SProp 𝓤
@@ -104,10 +104,10 @@ module _ {M : Type 1} (𝓤 : URA M) (H : Heap 𝓤) (A : Atoms 𝓤) (W : Given
   Words = ShrSlice (named 0) κ u32 .own xw (wv ∷ [])
 
   abbrev Run : Fml
-  Run = MutSlice (named 1) κ′ T.the-row .own xo (ov ∷ [])
+  Run = MutSlice (named 1) κ′ R.the-row .own xo (ov ∷ [])
 
   abbrev last : Fml
-  last = finally T.the-row γ′ out
+  last = finally R.the-row γ′ out
 
   exits : (m : ℕ) (u : Val) → m ≡ hostAnswer (copyOutcome ys (length zs))
       → ent 𝓤 (⋆ 𝓤 H A (‵ (u32 .own m (u ∷ [])) ∷ (‵ (flft κ q) ⊛ ‵ (flft κ′ q′) ⊛ ‵ ftrue) ∷ ‵ last ∷ ‵ Words ∷ [])) (Post u)
@@ -125,7 +125,7 @@ module _ {M : Type 1} (𝓤 : URA M) (H : Heap 𝓤) (A : Atoms 𝓤) (W : Given
       qed W ((‵ (flft κ q) ⊛ ‵ (flft κ′ q′) ⊛ ‵ ftrue) ∷ ‵ Words ∷ ‵ Run ∷ []) ∵ nothing ! $ move ! (3 ∷ 0 ∷ []) $ fjoin ! $ move ! (2 ∷ 0 ∷ []) $ fjoin ! $ move ! (1 ∷ 0 ∷ []) $ join ! $ frame ! $ done !
 
   -- of its answer and of the run at exit
-  abbrev Said : CopyAnswer → List Order → Type 0
+  abbrev Said : CopyAnswer → List OrderRecord → Type 0
   Said r l = (outcomeOfCopy r ≡ copyOutcome ys (length zs)) × (l ≡ out)
 
   -- what w owns, twice
@@ -147,7 +147,7 @@ module _ {M : Type 1} (𝓤 : URA M) (H : Heap 𝓤) (A : Atoms 𝓤) (W : Given
   module _ (C : Calls 𝓤 H) (Λ : Loops 𝓤 H) (fm : FmC 𝓤 H (W .laws) C) (known-copy : Triple 𝓤 (C #copy-out) (Copy 𝓤 H A at-mem run)) (known-number : Triple 𝓤 (C #copy-number) (Number 𝓤 H A at-mem run)) where
     walk : ent 𝓤 (onEntry 𝓤 H A f.signature (κ, (κ′, tt)) (q, (q′, tt)) x at) (WpFn 𝓤 H C Λ code.function (wv ∷ ov ∷ []) Post)
     walk =
-        qed W ((‵ (flft κ q) ⊛ ‵ (flft κ′ q′) ⊛ ‵ ftrue) ∷ ‵ (owns (ShrSlice (named 0) κ u32 ∷ MutSlice (named 1) κ′ T.the-row ∷ []) x at) ∷ []) ∵ move ! (1 ∷ []) $ fsplit ! $ move ! (1 ∷ []) $ fsplit ! $ move ! (1 ∷ []) $ drop ! $
+        qed W ((‵ (flft κ q) ⊛ ‵ (flft κ′ q′) ⊛ ‵ ftrue) ∷ ‵ (owns (ShrSlice (named 0) κ u32 ∷ MutSlice (named 1) κ′ R.the-row ∷ []) x at) ∷ []) ∵ move ! (1 ∷ []) $ fsplit ! $ move ! (1 ∷ []) $ fsplit ! $ move ! (1 ∷ []) $ drop ! $
         -- [what the run owns; what the words own; the tokens]
         enter ! C Λ code.function (wv ∷ ov ∷ []) _ $
         alloc1 ! (λ l₀. alloc1 ! (λ l₁. alloc1 ! (λ l₂. alloc1 ! (λ l₃. alloc1 ! (λ l₄. alloc1 ! (λ l₅. alloc0 ! $ params1 ! $
@@ -159,8 +159,8 @@ module _ {M : Type 1} (𝓤 : URA M) (H : Heap 𝓤) (A : Atoms 𝓤) (W : Given
         -- [what `copy_out` asks; what the words own; _5 2; _4 4; _3 6; _2 8; _1 10; _0 12]
         calls-at ! fm (Copy 𝓤 H A at-mem run) known-copy to-copy (and-then ! (load ! (from ! (stop !)) (look ! 10 refl)) (and-then ! (load ! (from ! (stop !)) (look ! 2 refl)) (no-more !))) (λ v.
         use1 W (later (some (λ (r : CopyAnswer). ((‵ (flft κ q) ⊛ ‵ (flft κ′ q′) ⊛ ‵ ftrue) ⊛ ‵ (D.the-row .own r (v ∷ []))) ⊛ raw (ensured 𝓤 H A a.ended (a.clauses 𝓤 H A at-mem run) (κ, (κ′, tt)) x tt r)))) (id⊢ 𝓤 _) $ await ! tt $ pick ! (λ r.
-        split ! $ move ! (1 ∷ []) $ use1 W (some (λ (ws : Unit {0} × (List Order × Unit {0})). ‵ (lasts a.ended (κ, (κ′, tt)) x ws) ⊛ raw (fact 𝓤 (Said r (ws .1 .0))))) (id⊢ 𝓤 _) $ pick ! (λ ws.
-        split ! $ move ! (1 ∷ []) $ heard ! (Said r (ws .1 .0)) (λ e. fsplit ! $ move ! (1 ∷ []) $ fsplit ! $ fsplit ! $ move ! (1 ∷ []) $ feqL ! (λ _. rewrite ! 0 (λ (l : List Order). ‵ (finally T.the-row γ′ l)) (e .1) refl $
+        split ! $ move ! (1 ∷ []) $ use1 W (some (λ (ws : Unit {0} × (List OrderRecord × Unit {0})). ‵ (lasts a.ended (κ, (κ′, tt)) x ws) ⊛ raw (fact 𝓤 (Said r (ws .1 .0))))) (id⊢ 𝓤 _) $ pick ! (λ ws.
+        split ! $ move ! (1 ∷ []) $ heard ! (Said r (ws .1 .0)) (λ e. fsplit ! $ move ! (1 ∷ []) $ fsplit ! $ fsplit ! $ move ! (1 ∷ []) $ feqL ! (λ _. rewrite ! 0 (λ (l : List OrderRecord). ‵ (finally R.the-row γ′ l)) (e .1) refl $
         -- [the last list; true; true; the tokens and the answer; what the words own; _5 5; …]
         move ! (3 ∷ []) $ split ! $ move ! (1 ∷ []) $
         -- [the answer; the tokens; the last list; true; true; what the words own; _5 6; _4 8; _3 10; _2 12; _1 14; _0 16]
@@ -179,11 +179,11 @@ module _ {M : Type 1} (𝓤 : URA M) (H : Heap 𝓤) (A : Atoms 𝓤) (W : Given
   venue-copy-out-walks : (C : Calls 𝓤 H) (Λ : Loops 𝓤 H) → FmC 𝓤 H (W .laws) C → Triple 𝓤 (C #copy-out) (Copy 𝓤 H A mem run) → Triple 𝓤 (C #copy-number) (Number 𝓤 H A mem run)
       → Walks 𝓤 H A f.ended stayed (WpFn 𝓤 H C Λ code.function) (f.clauses 𝓤 H A mem run)
   venue-copy-out-walks C Λ fm known-copy known-number = walked 𝓤 H A f.ended stayed (f.clauses 𝓤 H A mem run) (WpFn 𝓤 H C Λ code.function)
-      (λ κs. (slice-vals, (slice-vals, tt))) (λ κs. (shr-slice-tells (named 0) (κs .0) u32, (mut-slice-tells (named 1) (κs .1 .0) T.the-row, tt)))
+      (λ κs. (slice-vals, (slice-vals, tt))) (λ κs. (shr-slice-tells (named 0) (κs .0) u32, (mut-slice-tells (named 1) (κs .1 .0) R.the-row, tt)))
       (λ κs qs bounds y _ are. via 𝓤 _ (fst∗ 𝓤 _ (emp 𝓤)) (walk 𝓤 H A W mem run (κs .0) (κs .1 .0) (qs .0) (qs .1 .0) (y .0 .ptr .0) (y .0 .ptr .1) (y .0 .name) (y .0 .now) (y .1 .0 .ptr .0) (y .1 .0 .ptr .1) (y .1 .0 .name) (y .1 .0 .now) (are .0 .0 .1) (are .1 .0 .0 .1) C Λ fm known-copy known-number))
 
   goes : AllGo 𝓤 H A W 2 (f.signature .params) (f.ended .kept) stayed
-  goes = (goes-none-slice 𝓤 H A W 2 (0 ∷ []) tt (plain (λ _. u32)) yes, (goes-gave-slice 𝓤 H A W 2 1 tt (plain (λ _. T.the-row)), tt))
+  goes = (goes-none-slice 𝓤 H A W 2 (0 ∷ []) tt (plain (λ _. u32)) yes, (goes-gave-slice 𝓤 H A W 2 1 tt (plain (λ _. R.the-row)), tt))
 
 venue-copy-out-meets : {M : Type 1} (𝓤 : URA M) (H : Heap 𝓤) (A : Atoms 𝓤) (W : Given 𝓤 H A) (mem : Memory → SProp 𝓤) (run : Routine → Fun 𝓤) (𝓣 : Tables 𝓤 H)
     → Triple 𝓤 (𝓣 .C #copy-out) (Copy 𝓤 H A mem run) → Triple 𝓤 (𝓣 .C #copy-number) (Number 𝓤 H A mem run)

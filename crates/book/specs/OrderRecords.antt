@@ -1,0 +1,27 @@
+-- The record of an order in a run that a host lends: document 01, "Copy out": "a lent run of order records". Assumes nothing.
+use Rattle.book.specs.declared.Order.{Order}
+use Rattle.book.specs.declared.OrderRecord.{OrderRecord}
+use Rattle.book.specs.rules.Words.{flagWord, emptyOrder}
+
+-- the fields of the order, a flag as the word 0 or 1
+abbrev pub recordOf : Order → OrderRecord
+recordOf o =
+    record {
+      id = o.id;
+      mark = o.mark;
+      limit = o.limit;
+      shares = o.shares;
+      show = o.show;
+      life = o.life;
+      slide = o.slide;
+      stamp = o.stamp;
+      price = o.price;
+      «entry_bid» = o .«entry_bid»;
+      adjusted = flagWord (o .adjusted);
+      used = flagWord (o .used);
+      clear = flagWord (o .clear);
+    }
+
+-- what a run gives past its end
+abbrev pub emptyRecord : OrderRecord
+emptyRecord = recordOf emptyOrder
