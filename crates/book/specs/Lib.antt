@@ -1,3 +1,2 @@
-pub mod OrderRecords
 pub mod rules
 pub mod steps

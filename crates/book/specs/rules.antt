@@ -2,5 +2,6 @@
 pub mod Orders
 pub mod Matching
 pub mod Sound
+pub mod OrderRecords
 pub mod Depth
 pub mod Words

@@ -7,7 +7,7 @@ ghost use Prim.Native.Nat.{_<_};
 ghost use lib.ListN.{length, getD};
 ghost use Rattle.book.specs.rules.Words.{emptyOrder, resting};
 ghost use Rattle.book.specs.steps.BookSteps.{Book};
-ghost use Rattle.book.specs.OrderRecords.{recordOf};
+ghost use Rattle.book.specs.rules.OrderRecords.{recordOf};
 
 fn record_of(o: Order) -> OrderRecord
     ensures { λ r. ⌜ r ≡ recordOf o ⌝ }

@@ -20,7 +20,7 @@ ghost use Rattle.prices.specs.Prices.{permittedOf};
 ghost use Rattle.engine.specs.rules.Records.{recordNumbers, recordAt};
 ghost use Rattle.engine.specs.claims.RoundTrips.{Word};
 ghost use Rattle.engine.specs.claims.Calls.{outcomeOfAnswer};
-ghost use Rattle.host.specs.rules.Host.{hostAnswer, HostOpened, CountFits, EventApplied, HostApplied, endOrZero, valueOrZero};
+ghost use Rattle.host.specs.rules.Host.{hostAnswer, HostOpened, AnswerFits, EventApplied, HostApplied, endOrZero, valueOrZero};
 
 // An answer is refusal × REFUSAL_UNIT + byte count.
 pub(crate) const REFUSAL_UNIT: u32 = 65_536;
@@ -59,7 +59,7 @@ pub extern "C" fn venue_open(words: &mut [u32], close: u32) -> u32
 
 // The answer of an event as a number.
 fn answer_number(answer: Answer) -> u32
-    requires { ⌜ CountFits (outcomeOfAnswer answer) ⌝ }
+    requires { ⌜ AnswerFits (outcomeOfAnswer answer) ⌝ }
     ensures { λ r. ⌜ r ≡ hostAnswer (outcomeOfAnswer answer) ⌝ }
 {
     match answer {

@@ -50,8 +50,8 @@ extern "C" {
     fn venue_watch(watch: *mut Watch, price: u32) -> u32;
 }
 
-/// The header's `struct venue_order` has thirteen words.
-const _: () = assert!(size_of::<OrderRecord>() == 52 && size_of::<Watch>() == 8);
+/// The header's `struct venue_order` has a word a field.
+const _: () = assert!(size_of::<OrderRecord>() == 4 * ORDER_WORDS && size_of::<Watch>() == 8);
 
 /// Makes the words a fresh venue. Answers as `apply`, with no reports.
 pub fn open(words: &mut [u32], close: u32) -> u32 {

@@ -13,7 +13,7 @@ use Rattle.numbers.proofs.TestLaws.{answered-yes, answered-no}
 use Rattle.book.specs.declared.OrderRecord.{OrderRecord}
 use Rattle.book.specs.declared.Side.{Side}
 use Rattle.book.specs.declared.Side.the-variants.{Sell}
-use Rattle.book.specs.OrderRecords.{emptyRecord}
+use Rattle.book.specs.rules.OrderRecords.{emptyRecord}
 use Rattle.book.specs.rules.Depth.{onSide, counts, sharesShown, allShown, depthOutcome, depthOf, recordsRead}
 
 -- ---- a sell has a mark from 1 to 3

@@ -15,7 +15,7 @@ use Rattle.numbers.proofs.TestLaws.{answered-T}
 use Rattle.book.specs.declared.OrderRecord.{OrderRecord}
 use Rattle.book.specs.rules.Words.{emptyOrder, resting}
 use Rattle.book.specs.steps.BookSteps.{Book}
-use Rattle.book.specs.OrderRecords.{recordOf}
+use Rattle.book.specs.rules.OrderRecords.{recordOf}
 use Rattle.engine.specs.rules.Layout.{soundWords}
 use Rattle.engine.specs.rules.Copy.{copyOutcome, copied, filledBy}
 use Rattle.engine.proofs.refinement.RefuseLaws.{words-ordered}

@@ -7,7 +7,7 @@ use Rattle.numbers.specs.Tests.{pick}
 use Rattle.numbers.specs.Answers.{Outcome, gives, refuses}
 use Rattle.book.specs.declared.OrderRecord.{OrderRecord}
 use Rattle.book.specs.rules.Words.{resting}
-use Rattle.book.specs.OrderRecords.{recordOf}
+use Rattle.book.specs.rules.OrderRecords.{recordOf}
 use Rattle.engine.specs.declared.CopyAnswer.{CopyAnswer}
 use Rattle.engine.specs.declared.CopyAnswer.the-variants.{Filled, RunTooShort, VenueBroken}
 use Rattle.engine.specs.rules.Layout.{soundWords}

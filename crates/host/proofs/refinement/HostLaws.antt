@@ -34,7 +34,7 @@ use Rattle.records.specs.RecordAnswers.{readRefusalNumber}
 use Rattle.engine.specs.steps.Memory.{refusalIn}
 use Rattle.engine.specs.rules.Layout.{venueOf}
 use Rattle.engine.specs.claims.Calls.{refusalNumber, outcomeOfAnswer, openedWords, Opens, countOf, Applied}
-use Rattle.host.specs.rules.Host.{hostAnswer, outcomeOf, openCount, hostOpening, wordsOpened, HostOpened, CountFits, AnswerTold, EventApplied, HostApplied}
+use Rattle.host.specs.rules.Host.{hostAnswer, outcomeOf, openCount, hostOpening, wordsOpened, HostOpened, AnswerFits, AnswerTold, EventApplied, HostApplied}
 use Rattle.engine.proofs.refinement.OpeningLaws.{fresh-length, opened-book-with, opened-venue-with}
 use Rattle.engine.proofs.refinement.ApplyLaws.{step-by-refusal, not-refused}
 use Rattle.engine.proofs.bytes.BoundLaws.{reports-room}
@@ -62,12 +62,12 @@ read-refusal-range FieldTooLarge = (omega arith, omega arith)
 
 -- a number tells what was answered
 
-told-apart : (o : Outcome ℕ) → CountFits o → outcomeOf (hostAnswer o) ≡ o
+told-apart : (o : Outcome ℕ) → AnswerFits o → outcomeOf (hostAnswer o) ≡ o
 unfolding outcomeOf
 told-apart (gives count) f = by-test (λ (o : Outcome ℕ). o ≡ gives count) _ (λ t. refl) (λ t. absurd (omega tests))
 told-apart (refuses n) f = by-test (λ (o : Outcome ℕ). o ≡ refuses n) _ (λ t. absurd (omega tests)) (λ t. ap refuses (omega arith))
 
-module _ (o : Outcome ℕ) {answer : ℕ} (f : CountFits o) (e : answer ≡ hostAnswer o) where
+module _ (o : Outcome ℕ) {answer : ℕ} (f : AnswerFits o) (e : answer ≡ hostAnswer o) where
   pub outcome-told : outcomeOf answer ≡ o
   outcome-told = ap outcomeOf e ∙ told-apart o f
 
@@ -141,11 +141,11 @@ module _ {w b w′ b′ : List ℕ} {e : Event} (i : Word (getD w 4 0)) (h : All
       go none x = reports-room (venueOf w) e (length b) (not-refused w e (length b) x) (event-lastId (venueOf w) e i h)
       go (some n) x = tt
 
-  pub applied-fits : (x : Answer) → Applied w e b (outcomeOfAnswer x) w′ b′ → CountFits (outcomeOfAnswer x)
+  pub applied-fits : (x : Answer) → Applied w e b (outcomeOfAnswer x) w′ b′ → AnswerFits (outcomeOfAnswer x)
   applied-fits (Accepted n) a = small-count a
   applied-fits (Refused r) a = refusal-range r .0
 
-pub event-applied : {w b w′ b′ : List ℕ} {e : Event} (o : Outcome ℕ) {answer : ℕ} → CountFits o → answer ≡ hostAnswer o → Applied w e b o w′ b′ → EventApplied w e b answer w′ b′
+pub event-applied : {w b w′ b′ : List ℕ} {e : Event} (o : Outcome ℕ) {answer : ℕ} → AnswerFits o → answer ≡ hostAnswer o → Applied w e b o w′ b′ → EventApplied w e b answer w′ b′
 event-applied o f k a = record { told = answer-told o f k; applied = rw (outcome-told o f k) a }
 
 -- by what was read

@@ -47,14 +47,14 @@ pub record HostOpened (w : List ℕ) (close answer : ℕ) (w′ : List ℕ) : Ty
 -- Apply
 
 -- a byte count is at most 16,384, a refusal at least 1
-abbrev pub CountFits : Outcome ℕ → Type 0
-CountFits (gives count) = count ≤ leastBuffer
-CountFits (refuses n) = 1 ≤ n
+abbrev pub AnswerFits : Outcome ℕ → Type 0
+AnswerFits (gives count) = count ≤ leastBuffer
+AnswerFits (refuses n) = 1 ≤ n
 
 -- the number is just one of the two: a byte count below 65,536, or a refusal × 65,536
 pub record AnswerTold (answer : ℕ) : Type 0 where
   pub answers : answer ≡ hostAnswer (outcomeOf answer)
-  pub fits : CountFits (outcomeOf answer)
+  pub fits : AnswerFits (outcomeOf answer)
 
 -- one call of apply with the event e, as `Applied` says it, the answer read from the number
 pub record EventApplied (w : List ℕ) (e : Event) (b : List ℕ) (answer : ℕ) (w′ b′ : List ℕ) : Type 0 where

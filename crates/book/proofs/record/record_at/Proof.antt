@@ -1,7 +1,7 @@
 -- The record of the order that `load` gives. Assumes nothing.
 use mathlib.Core.Path.{ap, _∙_}
 use borrow.Author.Needs.{needs}
-use Rattle.book.specs.OrderRecords.{recordOf}
+use Rattle.book.specs.rules.OrderRecords.{recordOf}
 use Rattle.book.proofs.record.record_at.Statement.{statement}
 use Rattle.book.proofs.record.record_at.Tie as tie
 

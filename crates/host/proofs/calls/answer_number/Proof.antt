@@ -6,7 +6,7 @@ use borrow.Author.Needs.{needs}
 use Rattle.numbers.specs.Answers.{refuses}
 use Rattle.engine.specs.declared.Answer.{Answer}
 use Rattle.engine.specs.claims.Calls.{outcomeOfAnswer}
-use Rattle.host.specs.rules.Host.{hostAnswer, CountFits}
+use Rattle.host.specs.rules.Host.{hostAnswer, AnswerFits}
 use Rattle.host.proofs.refinement.HostLaws.{refusal-range}
 use Rattle.host.proofs.calls.answer_number.Statement.{statement}
 use Rattle.host.proofs.calls.answer_number.Tie as tie
@@ -24,7 +24,7 @@ enum-known-answer-2 : tie.Need-enum-known-answer-2
 enum-known-answer-2 c = search needs
 
 cast-result : tie.Need-cast-result
-cast-result c = let h = subst (λ (a : Answer). CountFits (outcomeOfAnswer a)) (c .before .answer2 .given .1) (c .before .before .before .pre) in record { fits = omega arith }
+cast-result c = let h = subst (λ (a : Answer). AnswerFits (outcomeOfAnswer a)) (c .before .answer2 .given .1) (c .before .before .before .pre) in record { fits = omega arith }
 
 returns : tie.Need-returns
 returns c =

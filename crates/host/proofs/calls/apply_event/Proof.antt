@@ -2,7 +2,7 @@
 use native.Mathlib.Omega.{arith}
 use borrow.Author.Needs.{needs}
 use Rattle.engine.specs.claims.Calls.{outcomeOfAnswer}
-use Rattle.host.specs.rules.Host.{CountFits}
+use Rattle.host.specs.rules.Host.{AnswerFits}
 use Rattle.host.proofs.refinement.HostLaws.{applied-fits, event-applied}
 use Rattle.host.proofs.calls.apply_event.Statement.{statement}
 use Rattle.host.proofs.calls.apply_event.Tie as tie
@@ -10,7 +10,7 @@ use Rattle.host.proofs.calls.apply_event.Tie as tie
 apply-requires : tie.Need-apply-requires
 apply-requires c κs = search needs
 
-answer-fits : (c : tie.After-slice-known4) → CountFits (outcomeOfAnswer (c .before .before .before .before .apply .result))
+answer-fits : (c : tie.After-slice-known4) → AnswerFits (outcomeOfAnswer (c .before .before .before .before .apply .result))
 answer-fits c =
     let called = c .before .before .before .before in
     let known = called .before .before .before .before in

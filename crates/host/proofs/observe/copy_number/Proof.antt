@@ -3,7 +3,7 @@ use native.Mathlib.Omega.{arith}
 use mathlib.Core.Path.{subst}
 use Rattle.engine.specs.declared.CopyAnswer.{CopyAnswer}
 use Rattle.engine.specs.rules.Copy.{outcomeOfCopy}
-use Rattle.host.specs.rules.Host.{CountFits}
+use Rattle.host.specs.rules.Host.{AnswerFits}
 use borrow.Author.Needs.{needs}
 use Rattle.host.proofs.observe.copy_number.Statement.{statement}
 use Rattle.host.proofs.observe.copy_number.Tie as tie
@@ -12,7 +12,7 @@ enum-known-answer : tie.Need-enum-known-answer
 enum-known-answer c = search needs
 
 cast-result : tie.Need-cast-result
-cast-result c = let h = subst (λ (a : CopyAnswer). CountFits (outcomeOfCopy a)) (c .before .answer .given .1) (c .before .before .before .pre) in record { fits = omega arith }
+cast-result c = let h = subst (λ (a : CopyAnswer). AnswerFits (outcomeOfCopy a)) (c .before .answer .given .1) (c .before .before .before .pre) in record { fits = omega arith }
 
 enum-told : tie.Need-enum-told
 enum-told c = search needs

@@ -48,7 +48,7 @@ use Rattle.engine.proofs.copy.copy_out as a
 use Rattle.engine.proofs.copy.copy_out.Symbol as a-def
 use Rattle.engine.proofs.copy.copy_out.Symbol.{name as #copy-out}
 use Rattle.engine.proofs.copy.copy_out.Met as a-thm
-use Rattle.host.specs.rules.Host.{hostAnswer, CountFits}
+use Rattle.host.specs.rules.Host.{hostAnswer, AnswerFits}
 use Rattle.host.proofs.refinement.CopyCount.{copy-fits}
 use Rattle.host.proofs.observe.copy_number as k
 use Rattle.host.proofs.observe.copy_number.Symbol as k-def
@@ -135,7 +135,7 @@ module _ {M : Type 1} (𝓤 : URA M) (H : Heap 𝓤) (A : Atoms 𝓤) (W : Given
   abbrev to-number : CopyAnswer → Val → Number 𝓤 H A at-mem run .Ghost
   to-number r v = ((tt, tt, tt, (r, tt), (v ∷ [], tt)), tt)
 
-  goes-number : (r : CopyAnswer) (v : Val) → CountFits (outcomeOfCopy r) → ent 𝓤 (sem 𝓤 H A (D.the-row .own r (v ∷ []))) (Number 𝓤 H A at-mem run .pre (to-number r v))
+  goes-number : (r : CopyAnswer) (v : Val) → AnswerFits (outcomeOfCopy r) → ent 𝓤 (sem 𝓤 H A (D.the-row .own r (v ∷ []))) (Number 𝓤 H A at-mem run .pre (to-number r v))
   goes-number r v fits = qed W (‵ (D.the-row .own r (v ∷ [])) ∷ []) ∵ says ! fits $ nothing ! $ move ! (1 ∷ 0 ∷ []) $ fjoin ! $ nothing ! $ done !
 
   abbrev said-number : CopyAnswer → ℕ → SProp 𝓤
@@ -166,7 +166,7 @@ module _ {M : Type 1} (𝓤 : URA M) (H : Heap 𝓤) (A : Atoms 𝓤) (W : Given
         -- [the answer; the tokens; the last list; true; true; what the words own; _5 6; _4 8; _3 10; _2 12; _1 14; _0 16]
         peeks ! D.the-row (Is D.the-row) (shows 𝓤 H A D.the-row) r (v ∷ []) (λ is.
         land ! (from ! (stop !)) (init ! 10 refl (EL.lawful D.the-type D′.the-laws 𝓤 H A W tt .typed r _ is .0)) $
-        use1 W (raw (Number 𝓤 H A at-mem run .pre (to-number r v))) (goes-number r v (subst CountFits (sym (e .0)) (copy-fits ys (length zs)))) $
+        use1 W (raw (Number 𝓤 H A at-mem run .pre (to-number r v))) (goes-number r v (subst AnswerFits (sym (e .0)) (copy-fits ys (length zs)))) $
         calls-at ! fm (Number 𝓤 H A at-mem run) known-number (to-number r v) (and-then ! (load ! (from ! (stop !)) (look ! 10 refl)) (no-more !)) (λ u.
         returned ! W u32 (Numbered r) (said-number r) (‵ ftrue) u (λ m. exE 𝓤 _ (λ ws′. snd∗ 𝓤 (sem 𝓤 H A (lasts k.ended tt (r, tt) ws′)) (fact 𝓤 (Numbered r m)))) (λ m e′ is′.
         -- [what the number owns; true; the tokens; the last list; true; true; what the words own; _5 7; _4 9; _3 11; _2 13; _1 15; _0 17]
