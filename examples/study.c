@@ -1,5 +1,5 @@
 /* A small study: a short sale order slides over a day with a falling and rising national bid while the restriction is on.
-   It sends events to the venue and prints, from the reports alone, what becomes of order 1. examples/study.py is the same in Python.
+   It sends events to the venue and prints, from the reports alone, what becomes of order 1, and before the day ends the order as copy out gives it. examples/study.py is the same in Python.
    Build and run, from the repository's root:
    rt staticlib host && cc -Wall -Wextra -Iinclude examples/study.c target/staticlib/libhost.a -o target/study && target/study */
 #include <inttypes.h>
@@ -107,6 +107,19 @@ static void play(const char *what, int count, const uint32_t *numbers)
     printf(" %5" PRIu32 "  %s\n", left, line[0] ? line : "-");
 }
 
+/* Prints each resting order as copy out gives it, with the shares displayed at its price on its side. */
+static void show_book(void)
+{
+    static struct venue_order run[VENUE_ORDERS];
+    uint32_t count = venue_count(venue_copy_out(words, VENUE_WORDS, run, VENUE_ORDERS));
+    for (uint32_t i = 0; i < count; i++) {
+        const struct venue_order *o = &run[i];
+        printf("resting: order %" PRIu32 ", %" PRIu32 " left at %" PRIu32 ", limit %" PRIu32 ", entry bid %" PRIu32 ", adjusted %" PRIu32 ", used %" PRIu32
+               ", clear %" PRIu32 "; displayed there: %" PRIu64 "\n",
+               o->id, o->shares, o->price, o->limit, o->entry_bid, o->adjusted, o->used, o->clear, venue_depth(run, count, o->price, o->mark));
+    }
+}
+
 int main(void)
 {
     uint32_t answer = venue_open(words, VENUE_WORDS, 100000);
@@ -126,6 +139,7 @@ int main(void)
     play("2 buys 200, 90600", 8, (uint32_t[]){ENTRY, 2, 0, 90600, 200, 1, 0, 0});
     play("bid 90000", 2, (uint32_t[]){BID, 90000});
     play("cancel 2", 2, (uint32_t[]){CANCEL, 2});
+    show_book();
     play("day end, close 90000", 2, (uint32_t[]){DAY_END, 90000});
     return 0;
 }

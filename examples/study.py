@@ -1,11 +1,11 @@
 """A small study: a short sale order slides over a day with a falling and rising national bid while the restriction is on.
 
-It sends events to the venue and prints, from the reports alone, what becomes of order 1. examples/study.c is the same in C.
+It sends events to the venue and prints, from the reports alone, what becomes of order 1, and before the day ends the order as copy out gives it. examples/study.c is the same in C.
 Build and run, from the repository's root:
 rt staticlib host && cc -shared -o target/libvenue.so -Wl,--whole-archive target/staticlib/libhost.a -Wl,--no-whole-archive && python3 examples/study.py
 """
 import re
-from ctypes import CDLL, POINTER, c_size_t, c_uint8, c_uint32
+from ctypes import CDLL, POINTER, Structure, c_size_t, c_uint8, c_uint32, c_uint64
 
 ENTRY, CANCEL, BID, TAPE, DAY_END = 1, 2, 3, 4, 5
 
@@ -14,11 +14,24 @@ with open("include/venue.h") as header:
     DEFINED = dict(re.findall(r"#define (\w+) (\d+)", header.read()))
 VENUE_WORDS = int(DEFINED["VENUE_WORDS"])
 VENUE_REPORT_BYTES = int(DEFINED["VENUE_REPORT_BYTES"])
+VENUE_ORDERS = int(DEFINED["VENUE_ORDERS"])
+
+
+class Order(Structure):
+    """The header's struct venue_order: one word a field."""
+    FIELDS = "id mark limit shares show life slide stamp price entry_bid adjusted used clear"
+    _fields_ = [(name, c_uint32) for name in FIELDS.split()]
+
+
 venue = CDLL("target/libvenue.so")
 venue.venue_open.argtypes = [POINTER(c_uint32), c_size_t, c_uint32]
 venue.venue_open.restype = c_uint32
 venue.venue_apply.argtypes = [POINTER(c_uint32), c_size_t, POINTER(c_uint8), c_size_t, POINTER(c_uint8), c_size_t]
 venue.venue_apply.restype = c_uint32
+venue.venue_copy_out.argtypes = [POINTER(c_uint32), c_size_t, POINTER(Order), c_size_t]
+venue.venue_copy_out.restype = c_uint32
+venue.venue_depth.argtypes = [POINTER(Order), c_size_t, c_uint32, c_uint32]
+venue.venue_depth.restype = c_uint64
 
 words = (c_uint32 * VENUE_WORDS)()
 reports = (c_uint8 * VENUE_REPORT_BYTES)()
@@ -90,6 +103,16 @@ def play(what, *numbers):
     print(f"{what:<24} {bid:>6} {price if left > 0 else '-':>6} {left:>5}  {line or '-'}")
 
 
+def show_book():
+    """Prints each resting order as copy out gives it, with the shares displayed at its price on its side."""
+    run = (Order * VENUE_ORDERS)()
+    count = venue.venue_copy_out(words, len(words), run, len(run)) % 65536
+    for o in run[:count]:
+        shown = venue.venue_depth(run, count, o.price, o.mark)
+        print(f"resting: order {o.id}, {o.shares} left at {o.price}, limit {o.limit}, entry bid {o.entry_bid}, adjusted {o.adjusted}, "
+              f"used {o.used}, clear {o.clear}; displayed there: {shown}")
+
+
 def main():
     answer = venue.venue_open(words, len(words), 100000)
     if answer != 0:
@@ -106,6 +129,7 @@ def main():
     play("2 buys 200, 90600", ENTRY, 2, 0, 90600, 200, 1, 0, 0)
     play("bid 90000", BID, 90000)
     play("cancel 2", CANCEL, 2)
+    show_book()
     play("day end, close 90000", DAY_END, 90000)
 
 
