@@ -4,18 +4,7 @@ use std::collections::HashSet;
 use std::hint::black_box;
 use std::time::Instant;
 
-// A number that include/venue.h defines, as ./run passes it on.
-const fn number(digits: &str) -> usize {
-    let mut value = 0;
-    let mut at = 0;
-    while at < digits.len() {
-        value = 10 * value + (digits.as_bytes()[at] - b'0') as usize;
-        at += 1;
-    }
-    value
-}
-
-const WORDS: usize = number(env!("VENUE_WORDS"));
+// Where the number of the layout stands.
 const LAYOUT_AT: usize = 15;
 const LAST: u32 = 1_000_000;
 
@@ -31,23 +20,23 @@ struct Words(Vec<u32>);
 
 impl Words {
     fn sound(&self, last_id: u32, last_stamp: u32) -> bool {
-        unsafe { bench_sound(self.0.as_ptr(), WORDS, last_id, last_stamp) }
+        unsafe { bench_sound(self.0.as_ptr(), self.0.len(), last_id, last_stamp) }
     }
 
     fn find(&self, id: u32) -> usize {
-        unsafe { bench_find(self.0.as_ptr(), WORDS, id) }
+        unsafe { bench_find(self.0.as_ptr(), self.0.len(), id) }
     }
 
     fn best(&self, mark: u32, price: u32) -> usize {
-        unsafe { bench_best(self.0.as_ptr(), WORDS, mark, price) }
+        unsafe { bench_best(self.0.as_ptr(), self.0.len(), mark, price) }
     }
 
     fn insert(&mut self, id: u32, mark: u32, price: u32, stamp: u32) {
-        unsafe { bench_insert(self.0.as_mut_ptr(), WORDS, id, mark, price, stamp) }
+        unsafe { bench_insert(self.0.as_mut_ptr(), self.0.len(), id, mark, price, stamp) }
     }
 
     fn remove(&mut self, i: usize) {
-        unsafe { bench_remove(self.0.as_mut_ptr(), WORDS, i) }
+        unsafe { bench_remove(self.0.as_mut_ptr(), self.0.len(), i) }
     }
 }
 
@@ -186,8 +175,8 @@ fn show(name: &str, ours: f64, plain: f64) {
 
 fn main() {
     for k in [8u32, 64, 250] {
-        let mut words = Words(vec![0; WORDS]);
-        words.0[LAYOUT_AT] = number(env!("VENUE_LAYOUT")) as u32;
+        let mut words = Words(vec![0; env!("VENUE_WORDS").parse().unwrap()]);
+        words.0[LAYOUT_AT] = env!("VENUE_LAYOUT").parse().unwrap();
         let mut plain = Plain(Vec::with_capacity(256));
         let mut seed: u64 = 12345;
         for i in 0..k {
