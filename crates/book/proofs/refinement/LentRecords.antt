@@ -1,7 +1,8 @@
 -- The order record as the proofs by hand have it, for a run that is lent. They take its type, its machine values, its size and its laws from here and name no field, so
 -- a further field of the record changes none of them.
---     the-row              its type.        mir     as MIR has it by value.        sliceOf     the MIR type of a lent run
+--     the-row              its type.        mir     as MIR has it by value.        sliceOf     the MIR type of a lent run.        the-field     the type as a field of another
 --     vals, val            its machine values, in a list and by itself.        tells, makes, lawful, typed     what is known of them
+--     at                   the record of a run at an index
 --     bytes, index-fits    its size, and that the offset of a record in a run is a usize
 --     record-out, record-back, record-put      record i is taken out of an open run, and put back as it was, or another in its place.        looks-records      a run lent by `&` is opened
 -- The laws and the steps assume `Given`.
@@ -39,7 +40,6 @@ the-row = T.the-row
 abbrev pub mir : Ty
 mir = T′.mir
 
--- as a field of another struct
 abbrev pub the-field : Field
 the-field = T.the-field
 
@@ -58,7 +58,6 @@ val = LL.val T.the-type T′.the-laws
 pub tells : Tells the-row (Is the-row) vals
 tells = LL.tells T.the-type T′.the-laws
 
--- what a run gives at an index
 abbrev pub at : List OrderRecord → ℕ → OrderRecord
 at ys i = getD ys i emptyRecord
 

@@ -11,15 +11,15 @@ on-side-requires c κs = search needs
 
 returns : tie.Need-returns
 unfolding counts
-returns c = c .on-side .ensures ∙ simp (eq-eqb _ 1 (c .before .before .before .if1 .taken), eq-eqb _ _ (c .before .if2 .taken))
+returns c = c .on-side .ensures ∙ simp (eq-eqb _ _ (c .before .before .before .if1 .taken), eq-eqb _ _ (c .before .if2 .taken))
 
 returns-2 : tie.Need-returns-2
 unfolding counts
-returns-2 c = simp (eq-eqb _ 1 (c .before .before .if1 .taken), ne-eqb _ _ (c .if2 .left))
+returns-2 c = simp (eq-eqb _ _ (c .before .before .if1 .taken), ne-eqb _ _ (c .if2 .left))
 
 returns-3 : tie.Need-returns-3
 unfolding counts
-returns-3 c = simp (ne-eqb _ 1 (c .if1 .left))
+returns-3 c = simp (ne-eqb _ _ (c .if1 .left))
 
 pub counts-spec : {M : Type 1} → statement M
 counts-spec = tie.close (tie.spec on-side-requires returns returns-2 returns-3)
