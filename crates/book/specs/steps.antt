@@ -3,3 +3,4 @@ pub mod BookSteps
 pub mod Positions
 pub mod WordSteps
 pub mod RecordWalk
+pub mod LentRuns

@@ -4,7 +4,8 @@ use crate::OrderRecord;
 use crate::Side;
 ghost use mathlib.Core.Path.{_≡_};
 ghost use Prim.Native.Nat.{_+_, _<_, _≤_, _^_};
-ghost use Rattle.book.specs.rules.Depth.{onSide, sharesShown, depthOutcome, depthOf, outcomeOfDepth, recordsRead};
+ghost use Rattle.book.specs.rules.Depth.{onSide, sharesShown, depthOutcome, depthOf, outcomeOfDepth};
+ghost use Rattle.book.specs.steps.LentRuns.{recordsRead};
 
 const MOST_RECORDS: usize = 256;
 

@@ -2,7 +2,6 @@
 use crate::Order;
 use crate::search;
 use crate::words;
-ghost use mathlib.Core.Path.{_≡_};
 ghost use Prim.Native.Nat.{_+_, _<_, _≤_};
 ghost use lib.Dec.{T};
 ghost use lib.ListN.{length, getD, set};
@@ -66,7 +65,7 @@ pub(crate) fn replace(w: &mut [u32], i: usize, o: Order)
 }
 
 // Puts an order in at a position.
-pub(crate) fn insert_at(w: &mut [u32], at: usize, o: Order)
+fn insert_at(w: &mut [u32], at: usize, o: Order)
     requires { ⌜ Book (now w) × (at ≤ length (resting (now w))) × (length (resting (now w)) < 256) ⌝ }
     ensures { λ _. ⌜ Holds (now (w .entry)) (now (w .exit)) (insertAt at o (resting (now (w .entry)))) ⌝ }
 {

@@ -20,7 +20,7 @@ pub fn id_at(w: &[u32], i: usize) -> u32
 }
 
 // How many orders stand before the first with a greater id: a binary search among the size orders from low on.
-pub(crate) fn rank(w: &[u32], id: u32) -> usize
+fn rank(w: &[u32], id: u32) -> usize
     requires { ⌜ Book (now w) × T (idsRise 0 (resting (now w))) ⌝ }
     ensures { λ r. ⌜ r ≡ rankOf id (resting (now (w .entry))) ⌝ }
 {

@@ -109,18 +109,18 @@ pub fn load(w: &[u32], i: usize) -> Order
     let p = HEADER + i * WIDTH;
     Order {
         id: w[p],
-        mark: w[p + 1],
-        limit: w[p + 2],
-        shares: w[p + 3],
-        show: w[p + 4],
-        life: w[p + 5],
-        slide: w[p + 6],
-        stamp: w[p + 7],
-        price: w[p + 8],
-        entry_bid: w[p + 9],
-        adjusted: w[p + 10] == 1,
-        used: w[p + 11] == 1,
-        clear: w[p + 12] == 1,
+        mark: w[p + MARK],
+        limit: w[p + LIMIT],
+        shares: w[p + SHARES],
+        show: w[p + SHOW],
+        life: w[p + LIFE],
+        slide: w[p + SLIDE],
+        stamp: w[p + STAMP],
+        price: w[p + PRICE],
+        entry_bid: w[p + ENTRY_BID],
+        adjusted: w[p + ADJUSTED] == 1,
+        used: w[p + USED] == 1,
+        clear: w[p + CLEAR] == 1,
     }
 }
 

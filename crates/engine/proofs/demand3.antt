@@ -1,4 +1,4 @@
--- The law of demand 3, and that no venue reached from open gets 16.
+-- The law of demand 3, that no venue reached from open gets 16, and the theorems of calls.
 pub mod MarketLaws
 pub mod Invariant
 pub mod TallyLaws
@@ -9,3 +9,4 @@ pub mod Demand3Law
 pub mod SoundLaws
 pub mod ReachedLaws
 pub mod ExampleLaws
+pub mod CallLaws

@@ -1,4 +1,4 @@
--- Laws by which the code does what the rules say, and the theorems of calls.
+-- Laws by which the code does what the rules say.
 pub mod MemoryLaws
 pub mod StepLaws
 pub mod RefuseLaws
@@ -12,4 +12,3 @@ pub mod QuoteLaws
 pub mod ApplyLaws
 pub mod OpeningLaws
 pub mod CopyLaws
-pub mod CallLaws

@@ -7,6 +7,7 @@ pub mod Venue
 pub mod Sound
 pub mod Refusals
 pub mod Run
+pub mod Answers
 pub mod Copy
 pub mod Records
 pub mod Layout

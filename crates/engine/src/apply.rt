@@ -14,7 +14,8 @@ ghost use mathlib.Core.Option.{none};
 ghost use lib.ListN.{length};
 ghost use Rattle.engine.specs.declared.Event.the-variants.{Entry as entry, Cancel as cancel, Bid as bid, Tape as tape, DayEnd as dayEnd};
 ghost use Rattle.engine.specs.steps.Memory.{refusalIn, Accepts};
-ghost use Rattle.engine.specs.claims.Calls.{Applied, outcomeOfAnswer};
+ghost use Rattle.engine.specs.claims.Calls.{Applied};
+ghost use Rattle.engine.specs.rules.Answers.{outcomeOfAnswer};
 
 fn accept_entry(w: &mut [u32], reports: &mut [u8], e: Entry) -> usize
     requires { ⌜ refusalIn (now w) (entry e) (length (now reports)) ≡ none ⌝ }

@@ -6,7 +6,8 @@ use book::record;
 use book::words;
 ghost use mathlib.Core.Path.{_≡_};
 ghost use lib.ListN.{length};
-ghost use Rattle.engine.specs.rules.Copy.{copyOutcome, copied, outcomeOfCopy, filledBy};
+ghost use Rattle.engine.specs.rules.Copy.{copyOutcome, copied, outcomeOfCopy};
+ghost use Rattle.engine.specs.steps.Steps.{filledBy};
 
 fn copy_answer(w: &[u32], records: usize) -> CopyAnswer
     ensures { λ r. ⌜ outcomeOfCopy r ≡ copyOutcome (now (w .entry)) records ⌝ }

@@ -2,13 +2,13 @@
 pub mod apply;
 pub mod copy;
 mod enter;
-pub mod header;
-pub mod leave;
+mod header;
+mod leave;
 pub mod open;
 mod quote;
 pub mod refusals;
-pub mod refuse;
-pub mod report;
+mod refuse;
+mod report;
 mod slide;
 mod working;
 

@@ -1,7 +1,7 @@
 // Document 01's numbers of the refusals.
 use crate::Refusal;
 ghost use mathlib.Core.Path.{_≡_};
-ghost use Rattle.engine.specs.claims.Calls.{refusalNumber};
+ghost use Rattle.engine.specs.rules.Answers.{refusalNumber};
 
 pub fn number_of(refusal: Refusal) -> u32
     ensures { λ r. ⌜ r ≡ refusalNumber refusal ⌝ }

@@ -21,7 +21,7 @@ ghost use Rattle.engine.specs.rules.Sound.{headerConditions};
 ghost use Rattle.engine.specs.rules.Refusals.{refuseUnless, codesInRange, refusalOfKind};
 ghost use Rattle.engine.specs.steps.Memory.{refusalIn, Ordered};
 ghost use Rattle.engine.specs.rules.Layout.{venueOf, soundWords};
-ghost use Rattle.engine.specs.claims.Calls.{refusedWith};
+ghost use Rattle.engine.specs.rules.Answers.{refusedWith};
 
 const MOST_EVENTS: u32 = 16_777_215;
 

@@ -76,7 +76,7 @@ pub(crate) fn permitted_now(m: Market) -> u32
 }
 
 // The price that an entry works at.
-pub(crate) fn working_price(m: Market, e: Entry) -> u32
+fn working_price(m: Market, e: Entry) -> u32
     requires { ⌜ T (isBid (m .bid)) ⌝ }
     ensures { λ r. ⌜ r ≡ workingPrice m e ⌝ }
 {

@@ -1,2 +1,3 @@
 -- What is claimed of the calls for hosts.
+pub mod Calls
 pub mod HostCalls

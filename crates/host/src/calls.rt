@@ -19,8 +19,9 @@ ghost use Rattle.numbers.specs.Tests.{All};
 ghost use Rattle.prices.specs.Prices.{permittedOf};
 ghost use Rattle.engine.specs.rules.Records.{recordNumbers, recordAt};
 ghost use Rattle.engine.specs.claims.RoundTrips.{Word};
-ghost use Rattle.engine.specs.claims.Calls.{outcomeOfAnswer};
-ghost use Rattle.host.specs.rules.Host.{hostAnswer, HostOpened, AnswerFits, EventApplied, HostApplied, endOrZero, valueOrZero};
+ghost use Rattle.engine.specs.rules.Answers.{outcomeOfAnswer};
+ghost use Rattle.host.specs.rules.Host.{hostAnswer, endOrZero, valueOrZero};
+ghost use Rattle.host.specs.claims.Calls.{HostOpened, AnswerFits, EventApplied, HostApplied};
 
 // An answer is refusal × REFUSAL_UNIT + byte count.
 pub(crate) const REFUSAL_UNIT: u32 = 65_536;

@@ -14,7 +14,8 @@ ghost use lib.ListN.{length};
 ghost use Rattle.prices.specs.Watch.{watched, watchOutcome, outcomeOfWatch};
 ghost use Rattle.book.specs.rules.Depth.{depthOf, outcomeOfDepth};
 ghost use Rattle.engine.specs.rules.Copy.{copyOutcome, copied, outcomeOfCopy};
-ghost use Rattle.host.specs.rules.Host.{hostAnswer, AnswerFits};
+ghost use Rattle.host.specs.rules.Host.{hostAnswer};
+ghost use Rattle.host.specs.claims.Calls.{AnswerFits};
 ghost use Rattle.host.specs.rules.Observe.{sideOf, depthNumber, watchCount};
 
 fn copy_number(answer: CopyAnswer) -> u32

@@ -1,5 +1,5 @@
 // Numbers in the seven-bit form: the lowest layer.
-pub mod count;
+mod count;
 pub mod read;
 pub mod write;
 

@@ -4,6 +4,7 @@ use Prim.Native.Nat.{ℕ}
 use mathlib.Core.List.{List, [], _∷_}
 use Rattle.numbers.specs.Answers.{Outcome, gives, refuses, Read}
 use Rattle.engine.specs.declared.Event.{Event}
+use Rattle.engine.specs.rules.Records.{onKind, eventOf, readAs}
 use Rattle.records.specs.declared.ReadRefusal.{ReadRefusal}
 use Rattle.records.specs.declared.ReadRefusal.the-variants.{MissingByte, BadNumber, UnknownKind, FieldTooLarge}
 use Rattle.records.specs.declared.FieldRead.{FieldRead}
@@ -37,3 +38,7 @@ outcomeOfField (fieldRefused r) = refuses (readRefusalNumber r)
 abbrev pub outcomeOfFields : FieldsRead → List ℕ → Outcome (Read (List ℕ))
 outcomeOfFields (fieldsEnd end) xs = gives (record { value = xs; end = end })
 outcomeOfFields (fieldsRefused r) xs = refuses (readRefusalNumber r)
+
+-- the event of a kind whose fields were read
+abbrev pub eventFrom : ℕ → Outcome (Read (List ℕ)) → Outcome (Read Event)
+eventFrom k o = readAs eventOf (onKind k o)

@@ -16,8 +16,8 @@ ghost use Prim.Native.Nat.{_<_};
 ghost use lib.ListN.{length};
 ghost use Rattle.numbers.specs.SevenBit.{bytesOfAll, Written, outcomeOfWrite};
 ghost use Rattle.engine.specs.declared.Event.the-variants.{Entry as entry};
-ghost use Rattle.engine.specs.rules.Records.{recordBytes, fieldsAt, byCount, recordFields, eventOf, readAs, eventFrom, recordAt};
-ghost use Rattle.records.specs.RecordAnswers.{readRefusalNumber, outcomeOfField, outcomeOfFields, outcomeOfRecordRead, outcomeOfRecordWrite};
+ghost use Rattle.engine.specs.rules.Records.{recordBytes, fieldsAt, byCount, recordFields, eventOf, readAs, recordAt};
+ghost use Rattle.records.specs.RecordAnswers.{eventFrom, readRefusalNumber, outcomeOfField, outcomeOfFields, outcomeOfRecordRead, outcomeOfRecordWrite};
 
 // The highest value of a field.
 const HIGHEST_FIELD: u64 = 4_294_967_295;

@@ -14,12 +14,6 @@ use Rattle.book.specs.rules.Matching.{reaches, betterOf, bestFrom, best,
 
 -- whom a working order reaches
 
-pub reach-buy : (w o : Order) → T (isBuy w) → T (reaches w o) → T (not (isBuy o)) × (o.price ≤ w.price)
-unfolding reaches
-reach-buy w o t r =
-    let s = and-T (not (isBuy o)) (leb (o .price) (w .price)) (subst T (pick-yes (isBuy w) _ _ t) r) in
-    (s .0, leb→le (o .price) (w .price) (s .1))
-
 pub reach-sell : (w o : Order) → T (not (isBuy w)) → T (reaches w o) → T (isBuy o) × (w.price ≤ o.price)
 unfolding reaches
 reach-sell w o t r =

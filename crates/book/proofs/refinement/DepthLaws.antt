@@ -13,8 +13,8 @@ use Rattle.numbers.proofs.TestLaws.{answered-yes, answered-no}
 use Rattle.book.specs.declared.OrderRecord.{OrderRecord}
 use Rattle.book.specs.declared.Side.{Side}
 use Rattle.book.specs.declared.Side.the-variants.{Sell}
-use Rattle.book.specs.rules.OrderRecords.{emptyRecord}
-use Rattle.book.specs.rules.Depth.{onSide, counts, sharesShown, allShown, depthOutcome, depthOf, recordsRead}
+use Rattle.book.specs.steps.LentRuns.{emptyRecord, recordsRead}
+use Rattle.book.specs.rules.Depth.{onSide, counts, sharesShown, allShown, depthOutcome, depthOf}
 
 -- ---- a sell has a mark from 1 to 3
 pub sell-zero : (mark : ℕ) → mark ≡ 0 → onSide Sell mark ≡ false

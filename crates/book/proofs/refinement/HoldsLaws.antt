@@ -1,4 +1,4 @@
--- Laws of what each step leaves in the words, and of one step after another. Assumes nothing.
+-- Laws of what each step leaves in the words. Assumes nothing.
 use Prim.Native.Nat.{ℕ, suc, _+_, _-_, _≤_, _<_}
 use native.Mathlib.Omega.{arith}
 use native.Mathlib.Numerals.{add-one}
@@ -13,21 +13,6 @@ use Rattle.book.specs.steps.WordSteps.{Stored, ShiftedDown, ShiftedUp}
 use Rattle.book.specs.steps.Positions.{removeAt, insertAt}
 use Rattle.book.proofs.refinement.TabulateLaws.{by-order, tabulate-ext, set-tabulate, remove-tabulate, insert-tabulate}
 use Rattle.book.proofs.refinement.WordLaws.{order-ext, resting-length, resting-tabulate, resting-is, resting-n}
-
--- one step after another
-
-pub holds-same : (w : List ℕ) → Book w → Holds w w (resting w)
-holds-same w b = record { book = b; rests = refl; size = refl; header = λ j h₀ h. refl; behind = λ j h. refl }
-
-pub holds-then : {w w₁ w′ : List ℕ} {l l′ : List Order} → Holds w w₁ l → Holds w₁ w′ l′ → Holds w w′ l′
-holds-then a b =
-    record {
-      book = b.book;
-      rests = b.rests;
-      size = b.size ∙ a.size;
-      header = λ j h₀ h. b .header j h₀ h ∙ a .header j h₀ h;
-      behind = λ j h. b .behind j h ∙ a .behind j h;
-    }
 
 -- the same orders, said otherwise
 pub holds-as : {w w′ : List ℕ} {l m : List Order} → Holds w w′ l → l ≡ m → Holds w w′ m

@@ -30,7 +30,7 @@ use denote.Struct.Field.{Field}
 use denote.Struct.Laws.{FLaws}
 use denote.Struct.Laws as LL
 use Rattle.book.specs.declared.OrderRecord.{OrderRecord}
-use Rattle.book.specs.rules.OrderRecords.{emptyRecord}
+use Rattle.book.specs.steps.LentRuns.{emptyRecord}
 use Rattle.book.proofs.OrderRecord as T
 use Rattle.book.proofs.OrderRecord.Laws as T′
 

@@ -11,12 +11,11 @@ use Rattle.numbers.proofs.TestLaws.{and-T, T-and, every-T, T-every, neqb, ne→
 use Rattle.book.specs.declared.Order.{Order}
 use Rattle.book.specs.rules.Sound.{idsRise, stampsDiffer, soundOrder}
 use Rattle.book.specs.rules.Words.{tabulate, word, orderAt, resting, flagsAt, isBook, soundBook}
-use Rattle.book.specs.steps.BookSteps.{Book}
 use Rattle.book.specs.steps.RecordWalk.{stampAt, stampSeen, idBefore, soundAt}
 use Rattle.book.proofs.definitions.OrderLaws.{stampOf, Differ}
 use Rattle.book.proofs.definitions.RisingLaws.{Rises, idsRise-rises, rises-idsRise}
 use Rattle.book.proofs.refinement.TabulateLaws.{all-tabulate, tabulate-all}
-use Rattle.book.proofs.refinement.WordLaws.{HeaderLaidOut, LaidOut, isBook-laidOut, laidOut-isBook, isBook-book}
+use Rattle.book.proofs.refinement.WordLaws.{HeaderLaidOut, LaidOut, isBook-laidOut, laidOut-isBook}
 use Rattle.book.proofs.refinement.StampLaws.{unseen-T, T-unseen}
 
 -- rising ids, place by place
@@ -101,9 +100,6 @@ module _ (lastId lastStamp : ℕ) (w : List ℕ) where
   unfolding soundBook
   parts-soundBook p =
       T-and (isBook w) _ (p .layout) (T-and (idsRise 0 (resting w)) _ (p .rising) (T-and (every (soundOrder lastId lastStamp) (resting w)) _ (T-every (soundOrder lastId lastStamp) (resting w) (p .orders)) (p .stamps)))
-
-  pub soundBook-book : T (soundBook lastId lastStamp w) → Book w
-  soundBook-book t = isBook-book w (soundBook-parts t .layout)
 
   parts-places : SoundParts lastId lastStamp w → SoundPlaces lastId lastStamp w
   unfolding soundAt resting

@@ -1,9 +1,8 @@
 -- Steps by position as the definitions' steps by id, where ids rise; lengths; and the search for the best order. Assumes nothing.
 use Prim.Native.Nat.{ℕ, zero, suc, _+_, _≤_, _<_}
 use native.Mathlib.Nat.{le-of-suc-le-suc, not-suc-le-zero}
-use native.Mathlib.Omega.{arith}
 use native.Mathlib.Numerals.{add-one}
-use mathlib.Core.Path.{_≡_, refl, sym, ap, ap₂, _∙_, subst}
+use mathlib.Core.Path.{_≡_, refl, sym, ap, ap₂, _∙_}
 use mathlib.Core.Bool.{true, false}
 use mathlib.Core.Option.{Option, none, some}
 use mathlib.Core.List.{List, [], _∷_, _++_}
@@ -17,9 +16,8 @@ use Rattle.book.specs.rules.Orders.{reduced, without}
 use Rattle.book.specs.rules.Matching.{reaches, better, betterOf, bestFrom, best, afterTrade}
 use Rattle.book.specs.rules.Words.{emptyOrder}
 use Rattle.book.specs.steps.Positions.{removeAt, insertAt, orderIn, considered}
-use Rattle.book.proofs.definitions.OrderLaws.{without-other}
-use Rattle.book.proofs.definitions.RisingLaws.{Rises, rises-without, rises-insert}
-use Rattle.book.proofs.refinement.PositionLaws.{id-above, without-at, set-at, bestFrom-at}
+use Rattle.book.proofs.definitions.RisingLaws.{Rises}
+use Rattle.book.proofs.refinement.PositionLaws.{without-at, set-at, bestFrom-at}
 
 -- lengths
 
@@ -51,11 +49,6 @@ module _ (l : List Order) (i : ℕ) (r : Rises 0 l) (h : i < length l) where
   pub trade-part : (q : ℕ) → q < (getD l i emptyOrder) .shares → set l i (reduced q (getD l i emptyOrder)) ≡ afterTrade (getD l i emptyOrder) q l
   unfolding afterTrade pick
   trade-part q p = sym (set-at 0 l emptyOrder (reduced q (getD l i emptyOrder)) i r h refl) ∙ sym (rw (lt-leb ((getD l i emptyOrder) .shares) q p))
-
--- an order replaced by one with its id: ids still rise
-pub rises-set : (l : List Order) (i : ℕ) (x : Order) → Rises 0 l → i < length l → (getD l i emptyOrder) .id ≡ x.id → Rises 0 (set l i x)
-rises-set l i x r h e =
-    subst (Rises 0) (set-at 0 l emptyOrder x i r h e) (rises-insert 0 x (without (x .id) l) (subst (λ (n : ℕ). 0 < n) e (id-above 0 l emptyOrder i r h)) (without-other (x .id) l) (rises-without 0 (x .id) l r))
 
 -- the search for the best order: one order considered
 

@@ -1,5 +1,5 @@
 -- Laws of a book's words: its orders by their words, and the layout test. Assumes nothing.
-use Prim.Native.Nat.{ℕ, zero, suc, _+_, _≤_, _<_, zero-le, suc-le-suc}
+use Prim.Native.Nat.{ℕ, zero, suc, _+_, _-_, _≤_, _<_, zero-le, suc-le-suc}
 use native.Mathlib.Nat.{add-zero, le-of-suc-le-suc, not-suc-le-zero}
 use native.Mathlib.Omega.{arith}
 use mathlib.Core.Path.{_≡_, refl, sym, ap, _∙_, subst}
@@ -96,18 +96,6 @@ row-is o a u c p q r =
 
 -- the layout test
 
-flagsAt-T : (w : List ℕ) (i : ℕ) → T (flagsAt w i) → (k : ℕ) → firstFlag ≤ k → k < pastFlags → word w i k ≤ 1
-unfolding flagsAt
-flagsAt-T w i t =
-    let a = and-T (leb (word w i 10) 1) _ t in
-    let b = and-T (leb (word w i 11) 1) (leb (word w i 12) 1) (a .1) in
-    at-flags (λ (k : ℕ). word w i k ≤ 1) (leb→le _ _ (a .0)) (leb→le _ _ (b .0)) (leb→le _ _ (b .1))
-
-T-flagsAt : (w : List ℕ) (i : ℕ) → ((k : ℕ) → firstFlag ≤ k → k < pastFlags → word w i k ≤ 1) → T (flagsAt w i)
-unfolding flagsAt
-T-flagsAt w i h =
-    T-and (leb (word w i 10) 1) _ (le→leb _ _ (h 10 (omega arith) (omega arith))) (T-and (leb (word w i 11) 1) _ (le→leb _ _ (h 11 (omega arith) (omega arith))) (le→leb _ _ (h 12 (omega arith) (omega arith))))
-
 -- the layout test as facts at each place
 pub record HeaderLaidOut (w : List ℕ) : Type 0 where
   pub long : venueWords ≤ length w
@@ -127,6 +115,16 @@ at-conj : (n : ℕ) (f : ℕ → Bool) → ((i : ℕ) → i < n → T (f i)) →
 at-conj zero f h = tt
 at-conj (suc n) f h =
     T-and (f zero) (conj (tabulate n (λ k. f (suc k)))) (h zero (suc-le-suc zero-le)) (at-conj n (λ k. f (suc k)) (λ i l. h (suc i) (suc-le-suc l)))
+
+flagsAt-T : (w : List ℕ) (i : ℕ) → T (flagsAt w i) → (k : ℕ) → firstFlag ≤ k → k < pastFlags → word w i k ≤ 1
+unfolding flagsAt
+flagsAt-T w i t k l h =
+    subst (λ (q : ℕ). word w i q ≤ 1) {x = firstFlag + (k - firstFlag)} (omega arith) (leb→le _ _ (conj-at (pastFlags - firstFlag) (λ q. leb (word w i (firstFlag + q)) 1) t (k - firstFlag) (omega arith)))
+
+T-flagsAt : (w : List ℕ) (i : ℕ) → ((k : ℕ) → firstFlag ≤ k → k < pastFlags → word w i k ≤ 1) → T (flagsAt w i)
+unfolding flagsAt
+T-flagsAt w i h =
+    at-conj (pastFlags - firstFlag) (λ q. leb (word w i (firstFlag + q)) 1) (λ q l. le→leb _ _ (h (firstFlag + q) (omega arith) (omega arith)))
 
 pub headerLaidOut-facts : (w : List ℕ) → T (headerLaidOut w) → HeaderLaidOut w
 unfolding headerLaidOut

@@ -41,7 +41,3 @@ depthOf run p s = depthOutcome (length run) (allShown p s run)
 abbrev pub outcomeOfDepth : DepthAnswer → Outcome ℕ
 outcomeOfDepth (Shares n) = gives n
 outcomeOfDepth TooMany = refuses 15
-
--- how many records of a run of n are summed
-unfoldable pub recordsRead : ℕ → ℕ
-recordsRead n = pick (ltb 256 n) 0 n

@@ -1,7 +1,7 @@
 -- The record of an order in a run that a host lends: document 01, "Copy out": "a lent run of order records". Assumes nothing.
 use Rattle.book.specs.declared.Order.{Order}
 use Rattle.book.specs.declared.OrderRecord.{OrderRecord}
-use Rattle.book.specs.rules.Words.{flagWord, emptyOrder}
+use Rattle.book.specs.rules.Words.{flagWord}
 
 -- the fields of the order, a flag as the word 0 or 1
 abbrev pub recordOf : Order → OrderRecord
@@ -21,7 +21,3 @@ recordOf o =
       used = flagWord (o .used);
       clear = flagWord (o .clear);
     }
-
--- what a run gives past its end
-abbrev pub emptyRecord : OrderRecord
-emptyRecord = recordOf emptyOrder

@@ -1,6 +1,6 @@
 -- What a run of words means as a book: the header, whose first word is the number of orders and whose last is the number of the layout, then
 -- 256 places, each the words of an order, the used ones in front; a longer run has further words behind. Assumes nothing.
-use Prim.Native.Nat.{ℕ, zero, suc, _+_, _*_}
+use Prim.Native.Nat.{ℕ, zero, suc, _+_, _-_, _*_}
 use mathlib.Core.Bool.{Bool, true, false, _&&_}
 use mathlib.Core.List.{List, [], _∷_}
 use lib.Dec.{leb, eqb}
@@ -83,7 +83,7 @@ resting w = tabulate (getD w 0 0) (orderAt w)
 -- the layout: long enough, with the number of this layout, at most 256 orders, and the flags of each are 0 or 1
 
 unfoldable pub flagsAt : List ℕ → ℕ → Bool
-flagsAt w i = leb (word w i 10) 1 && (leb (word w i 11) 1 && leb (word w i 12) 1)
+flagsAt w i = conj (tabulate (pastFlags - firstFlag) (λ k. leb (word w i (firstFlag + k)) 1))
 
 unfoldable pub headerLaidOut : List ℕ → Bool
 headerLaidOut w = leb venueWords (length w) && (eqb (getD w layoutWord 0) layoutNumber && leb (getD w 0 0) 256)

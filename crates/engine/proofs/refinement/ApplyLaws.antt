@@ -19,8 +19,8 @@ use Rattle.engine.specs.rules.Run.{Step, stepUnless, step}
 use Rattle.engine.specs.rules.Records.{reportsBytes}
 use Rattle.engine.specs.claims.RoundTrips.{Word}
 use Rattle.engine.specs.steps.Memory.{refusalIn, Room, effectIn, MayAccept, Accepts}
-use Rattle.engine.specs.rules.Layout.{venueOf, soundWords}
-use Rattle.engine.specs.claims.Calls.{stepIn, Applied}
+use Rattle.engine.specs.rules.Layout.{venueOf, soundWords, stepIn}
+use Rattle.engine.specs.claims.Calls.{Applied}
 use Rattle.engine.proofs.refinement.RefusalLaws.{Allowed, NotRefused, Unless, refusalOfKind-known}
 use Rattle.engine.proofs.refinement.RefuseLaws.{refuse-no, words-ordered, words-sound}
 use Rattle.engine.proofs.bytes.BoundLaws.{reports-room}

@@ -17,7 +17,8 @@ use Rattle.book.specs.rules.Words.{emptyOrder, resting}
 use Rattle.book.specs.steps.BookSteps.{Book}
 use Rattle.book.specs.rules.OrderRecords.{recordOf}
 use Rattle.engine.specs.rules.Layout.{soundWords}
-use Rattle.engine.specs.rules.Copy.{copyOutcome, copied, filledBy}
+use Rattle.engine.specs.rules.Copy.{copyOutcome, copied}
+use Rattle.engine.specs.steps.Steps.{filledBy}
 use Rattle.engine.proofs.refinement.RefuseLaws.{words-ordered}
 
 -- ---- the outcome, by the tests

@@ -2,7 +2,7 @@
 use Prim.Native.Nat.{ℕ}
 use native.Mathlib.Omega.{arith}
 use mathlib.Core.Path.{_≡_, refl, sym, ap, _∙_, subst}
-use mathlib.Core.Bool.{true, false, not}
+use mathlib.Core.Bool.{true, not}
 use mathlib.Core.List.{List, [], _++_, append-nil}
 use lib.Dec.{T, not-T}
 use lib.ListN.{length, set, replicate, length-append, length-replicate, length-set}
@@ -18,8 +18,8 @@ use Rattle.engine.specs.declared.Refusal.the-variants.{PriceNotLegal}
 use Rattle.engine.specs.declared.OpenAnswer.the-variants.{Fresh, NotOpened}
 use Rattle.engine.specs.rules.Venue.{Venue, opened, opening}
 use Rattle.engine.specs.rules.Run.{Step, step}
-use Rattle.engine.specs.rules.Layout.{venueOf}
-use Rattle.engine.specs.claims.Calls.{freshWords, openedWords, Opens, stepIn}
+use Rattle.engine.specs.rules.Layout.{venueOf, freshWords, openedWords, stepIn}
+use Rattle.engine.specs.claims.Calls.{Opens}
 
 pub record Opened (close : ℕ) (v : Venue) : Type 0 where
   pub legal : T (legal close)

@@ -32,8 +32,3 @@ abbrev pub outcomeOfCopy : CopyAnswer → Outcome ℕ
 outcomeOfCopy (Filled n) = gives n
 outcomeOfCopy RunTooShort = refuses 14
 outcomeOfCopy VenueBroken = refuses 16
-
--- how many records are filled
-abbrev pub filledBy : Outcome ℕ → ℕ
-filledBy (gives n) = n
-filledBy (refuses k) = 0

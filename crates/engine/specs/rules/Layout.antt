@@ -1,14 +1,21 @@
--- The venue that a run of words means, and what an event leaves of the words. Assumes nothing.
-use Prim.Native.Nat.{ℕ, _≤_, _<_}
-use mathlib.Core.Path.{_≡_}
+-- The venue that a run of words means: the words of open, and the step of words. Assumes nothing.
+use Prim.Native.Nat.{ℕ}
 use mathlib.Core.Bool.{Bool, _&&_}
 use mathlib.Core.List.{List}
-use lib.ListN.{length, getD}
-use Rattle.book.specs.rules.Words.{headerWords, venueWords, resting, isBook}
+use lib.ListN.{getD, set, replicate}
+use Rattle.numbers.specs.Tests.{pick}
+use Rattle.numbers.specs.Answers.{Outcome, gives, refuses}
+use Rattle.prices.specs.Prices.{legal}
+use Rattle.book.specs.rules.Words.{venueWords, layoutNumber, layoutWord, resting, isBook}
+use Rattle.engine.specs.declared.Event.{Event}
+use Rattle.engine.specs.declared.OpenAnswer.{OpenAnswer}
+use Rattle.engine.specs.declared.OpenAnswer.the-variants.{Fresh, NotOpened}
 use Rattle.engine.specs.rules.Venue.{Venue}
 use Rattle.engine.specs.rules.Sound.{sound}
+use Rattle.engine.specs.rules.Run.{Step, step}
+use Rattle.engine.specs.rules.Answers.{refusalNumber}
 
--- header words 1 to 6, and the orders; words 7 to 15 are spare
+-- header words 1 to 6, and the orders; words 7 to 14 are spare, and word 15 is the number of the layout
 unfoldable pub venueOf : List ℕ → Venue
 venueOf w =
     record {
@@ -23,8 +30,18 @@ venueOf w =
 unfoldable pub soundWords : List ℕ → Bool
 soundWords w = isBook w && sound (venueOf w)
 
--- what no event changes: the length, the spare words, the words behind the venue
-pub record SameSpare (w w′ : List ℕ) : Type 0 where
-  pub size : length w′ ≡ length w
-  pub spare : (j : ℕ) → 7 ≤ j → j < headerWords → getD w′ j 0 ≡ getD w j 0
-  pub behind : (j : ℕ) → venueWords ≤ j → getD w′ j 0 ≡ getD w j 0
+-- the paper's terms for the answer of open, whose words are the venue
+abbrev pub outcomeOfOpen : OpenAnswer → List ℕ → Outcome Venue
+outcomeOfOpen Fresh words = gives (venueOf words)
+outcomeOfOpen (NotOpened r) words = refuses (refusalNumber r)
+
+-- the words of a fresh venue, 0 but for the close and the number of the layout; all 0 where no venue is made
+abbrev pub freshWords : ℕ → List ℕ
+freshWords close = set (set (replicate venueWords 0) 1 close) layoutWord layoutNumber
+
+unfoldable pub openedWords : ℕ → List ℕ
+openedWords close = pick (legal close) (freshWords close) (replicate venueWords 0)
+
+-- the step of the venue that the words mean; words that are laid out as none are refused with 16
+unfoldable pub stepIn : List ℕ → Event → ℕ → Step
+stepIn w e n = pick (isBook w) (step (venueOf w) e n) (record { answer = refuses 16; venue = venueOf w })

@@ -106,10 +106,6 @@ abbrev pub readAs : {A B : Type 0} → (A → B) → Outcome (Read A) → Outcom
 readAs f (gives r) = gives (record { value = f (r .value); end = r.end })
 readAs f (refuses n) = refuses n
 
--- the event of a kind whose fields were read
-abbrev pub eventFrom : ℕ → Outcome (Read (List ℕ)) → Outcome (Read Event)
-eventFrom k o = readAs eventOf (onKind k o)
-
 -- the event record, and the report, at an offset of a list of bytes: "9 when a byte is missing (also at or past the end); 10 a bad number;
 -- 11 kind not 1 to 5; 12 a field above 4,294,967,295. Judged left to right"
 unfoldable pub recordAt : List ℕ → ℕ → Outcome (Read Event)

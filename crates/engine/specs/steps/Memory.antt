@@ -19,7 +19,8 @@ use Rattle.engine.specs.rules.Venue.{Venue, effectOf, venueAfter}
 use Rattle.engine.specs.rules.Sound.{mostEvents, sound}
 use Rattle.engine.specs.rules.Refusals.{refuseUnless, refusalOfKind, leastBuffer}
 use Rattle.engine.specs.rules.Records.{reportsBytes}
-use Rattle.engine.specs.rules.Layout.{venueOf, soundWords, SameSpare}
+use Rattle.engine.specs.rules.Layout.{venueOf, soundWords}
+use Rattle.engine.specs.claims.Calls.{SameSpare}
 
 -- the refusals of an event, for any words; n is the length of the lent report buffer
 unfoldable pub refusalIn : List ℕ → Event → ℕ → Option ℕ

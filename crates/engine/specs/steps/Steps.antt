@@ -4,6 +4,7 @@ use mathlib.Core.Path.{_≡_}
 use mathlib.Core.List.{List, [], _∷_, map}
 use lib.ListN.{length, getD}
 use Rattle.numbers.specs.SevenBit.{Put}
+use Rattle.numbers.specs.Answers.{Outcome, gives, refuses}
 use Rattle.numbers.specs.Tests.{pick, All}
 use Rattle.book.specs.declared.Order.{Order}
 use Rattle.book.specs.rules.Orders.{find}
@@ -75,3 +76,8 @@ passIn w = let v : Venue = venueOf w in thePass (v .market) v
 pub record PassesAndFinishes (w w′ b b′ : List ℕ) (at end : ℕ) : Type 0 where
   pub becomes : Becomes w w′ (finished (venueOf w .lastId) (passIn w .stamp) (withOrders (passIn w .orders) (venueOf w)))
   pub wrote : Put (reportsBytes (passIn w .reports)) at b end b′
+
+-- how many records are filled
+abbrev pub filledBy : Outcome ℕ → ℕ
+filledBy (gives n) = n
+filledBy (refuses k) = 0

@@ -1,4 +1,4 @@
--- What holds of every chain of calls of venue_apply: the theorems of specs/HostCalls.antt, from those of chains of apply. Assumes nothing.
+-- What holds of every chain of calls of venue_apply: the theorems of specs/claims/HostCalls.antt, from those of chains of apply. Assumes nothing.
 use Prim.Native.Nat.{ℕ}
 use native.Mathlib.Omega.{arith}
 use mathlib.Core.Path.{_≡_, refl, sym, ap, _∙_}
@@ -13,11 +13,12 @@ use Rattle.engine.specs.declared.Event.{Event}
 use Rattle.engine.specs.rules.Venue.{opened}
 use Rattle.engine.specs.rules.Records.{recordAt}
 use Rattle.engine.specs.rules.Layout.{venueOf}
-use Rattle.engine.specs.claims.Calls.{HostCall, Chain, none as noEvents, more as moreEvents, LongEnough, SameForBoth}
+use Rattle.engine.specs.claims.Calls.{AppliedCall, Chain, none as noEvents, more as moreEvents, LongEnough, SameForBoth}
 use Rattle.engine.proofs.bytes.RecordLaws.{record-unique}
-use Rattle.engine.proofs.refinement.CallLaws.{demand3-from, no-16-from, both}
-use Rattle.host.specs.rules.Host.{hostAnswer, AnswerTold, RecordApplied}
-use Rattle.host.specs.claims.HostCalls.{ApplyCall, ApplyChain, none, more, EventCall, withEvent, eventCalls, hostCall, AnswersTold, UnreadableRefused, EventsOfCalls, Demand3OfHosts, NoHostGets16, EqualHostReports}
+use Rattle.engine.proofs.demand3.CallLaws.{demand3-from, no-16-from, both}
+use Rattle.host.specs.rules.Host.{hostAnswer}
+use Rattle.host.specs.claims.Calls.{AnswerTold, RecordApplied}
+use Rattle.host.specs.claims.HostCalls.{ApplyCall, ApplyChain, none, more, EventCall, withEvent, eventCalls, appliedCall, AnswersTold, UnreadableRefused, EventsOfCalls, Demand3OfHosts, NoHostGets16, EqualHostReports}
 use Rattle.host.proofs.refinement.HostLaws.{outcome-told, answer-told, opened-fresh}
 
 -- the numbers
@@ -38,12 +39,12 @@ unreadable-refused w bytes b answer w′ b′ a n e = rw e at a
 
 -- the events
 
-events : {w w′ : List ℕ} {cs : List ApplyCall} → ApplyChain w cs w′ → Chain w (map hostCall (eventCalls cs)) w′
+events : {w w′ : List ℕ} {cs : List ApplyCall} → ApplyChain w cs w′ → Chain w (map appliedCall (eventCalls cs)) w′
 unfolding eventCalls
 events none = noEvents
 events {w′ = w′} (more {w = w} {w₁ = w₁} {c = c} {cs = cs} h a r) = by-record (recordAt (c .bytes) 0) refl a (events r)
   where
-    by-record : (x : Outcome (Read Event)) → recordAt (c .bytes) 0 ≡ x → RecordApplied x w (c .lent) (c .answer) w₁ (c .after) → Chain w₁ (map hostCall (eventCalls cs)) w′ → Chain w (map hostCall (withEvent x c (eventCalls cs))) w′
+    by-record : (x : Outcome (Read Event)) → recordAt (c .bytes) 0 ≡ x → RecordApplied x w (c .lent) (c .answer) w₁ (c .after) → Chain w₁ (map appliedCall (eventCalls cs)) w′ → Chain w (map appliedCall (withEvent x c (eventCalls cs))) w′
     by-record (gives e) q b later = moreEvents (record-unique (c .bytes) 0 e h q .words) (b .applied) later
     by-record (refuses n) q b later = rw (b .words) at later
 
@@ -53,17 +54,17 @@ events-of-calls w cs w′ c = events c
 pub demand3-of-hosts : Demand3OfHosts
 demand3-of-hosts w close w₀ h cs w′ c =
     let f = opened-fresh h in
-    demand3-from close (f .legal) (f .layout) (f .venue) (map hostCall (eventCalls cs)) w′ (events c)
+    demand3-from close (f .legal) (f .layout) (f .venue) (map appliedCall (eventCalls cs)) w′ (events c)
 
 -- no refusal 16
 
-joined : {w w₁ w′ : List ℕ} {cs ds : List HostCall} → Chain w cs w₁ → Chain w₁ ds w′ → Chain w (cs ++ ds) w′
+joined : {w w₁ w′ : List ℕ} {cs ds : List AppliedCall} → Chain w cs w₁ → Chain w₁ ds w′ → Chain w (cs ++ ds) w′
 joined noEvents d = d
 joined (moreEvents h a r) d = moreEvents h a (joined r d)
 
 module _ (close : ℕ) (t : T (legal close)) {w₀ : List ℕ} (u : T (isBook w₀)) (f : venueOf w₀ ≡ opened close) where
   -- hs are the events so far
-  no-16-behind : {w w′ : List ℕ} {hs : List HostCall} {cs : List ApplyCall} → Chain w₀ hs w → ApplyChain w cs w′ → All (λ (c : ApplyCall). c .answer ≡ hostAnswer (refuses 16) → ⊥) cs
+  no-16-behind : {w w′ : List ℕ} {hs : List AppliedCall} {cs : List ApplyCall} → Chain w₀ hs w → ApplyChain w cs w′ → All (λ (c : ApplyCall). c .answer ≡ hostAnswer (refuses 16) → ⊥) cs
   no-16-behind d none = tt
   no-16-behind {hs = hs} d (more {w = w} {w₁ = w₁} {c = c} h a r) = (by-record (recordAt (c .bytes) 0) a, no-16-behind (joined d (events (more {c = c} h a none))) r)
     where
@@ -78,7 +79,7 @@ no-host-gets-16 w close w₀ h cs w′ c = let f = opened-fresh h in no-16-behin
 
 -- the numbers of the events, from what is read from them
 abbrev Numbers : List EventCall → Type 0
-Numbers cs = map (λ (c : EventCall). c .call .answer) cs ≡ map hostAnswer (map (λ (c : HostCall). c .answer) (map hostCall cs))
+Numbers cs = map (λ (c : EventCall). c .call .answer) cs ≡ map hostAnswer (map (λ (c : AppliedCall). c .answer) (map appliedCall cs))
 
 numbers : (cs : List ApplyCall) → All (λ (c : ApplyCall). AnswerTold (c .answer)) cs → Numbers (eventCalls cs)
 unfolding eventCalls
@@ -95,7 +96,7 @@ equal-host-reports close w v w₀ v₀ h k cs ds w′ v′ c d q l m =
     let g = opened-fresh k in
     let xs : List EventCall = eventCalls cs in
     let ys : List EventCall = eventCalls ds in
-    let s : SameForBoth (map hostCall xs) (map hostCall ys) w′ v′ = both (T-true _ (f .layout) ∙ sym (T-true _ (g .layout))) (f .venue ∙ sym (g .venue)) (events c) (events d) (simp map-map q) (map-all LongEnough hostCall xs l) (map-all LongEnough hostCall ys m) in
+    let s : SameForBoth (map appliedCall xs) (map appliedCall ys) w′ v′ = both (T-true _ (f .layout) ∙ sym (T-true _ (g .layout))) (f .venue ∙ sym (g .venue)) (events c) (events d) (simp map-map q) (map-all LongEnough appliedCall xs l) (map-all LongEnough appliedCall ys m) in
     record {
       answers = numbers cs (told c) ∙ ap (map hostAnswer) (s .answers) ∙ sym (numbers ds (told d));
       reports = simp map-map at (s .reports);

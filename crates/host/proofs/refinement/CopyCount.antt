@@ -10,7 +10,7 @@ use Rattle.book.specs.rules.Words.{resting}
 use Rattle.engine.specs.rules.Layout.{soundWords}
 use Rattle.engine.specs.rules.Copy.{copyOutcome}
 use Rattle.engine.proofs.refinement.CopyLaws.{copy-broken, copy-short, copy-fills, sound-book}
-use Rattle.host.specs.rules.Host.{AnswerFits}
+use Rattle.host.specs.claims.Calls.{AnswerFits}
 
 fits-at : (w : List ℕ) (n : ℕ) (y z : Bool) → soundWords w ≡ y → leb (length (resting w)) n ≡ z → AnswerFits (copyOutcome w n)
 fits-at w n true true s h = let b = sound-book w (sym s) refl in subst AnswerFits (sym (copy-fills w n s h)) (omega (arith, b .few))

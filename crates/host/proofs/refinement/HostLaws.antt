@@ -32,14 +32,16 @@ use Rattle.engine.specs.rules.Records.{recordNumbers, recordAt}
 use Rattle.engine.specs.claims.RoundTrips.{Word}
 use Rattle.records.specs.RecordAnswers.{readRefusalNumber}
 use Rattle.engine.specs.steps.Memory.{refusalIn}
-use Rattle.engine.specs.rules.Layout.{venueOf}
-use Rattle.engine.specs.claims.Calls.{refusalNumber, outcomeOfAnswer, openedWords, Opens, countOf, Applied}
-use Rattle.host.specs.rules.Host.{hostAnswer, outcomeOf, openCount, hostOpening, wordsOpened, HostOpened, AnswerFits, AnswerTold, EventApplied, HostApplied}
+use Rattle.engine.specs.rules.Layout.{venueOf, openedWords}
+use Rattle.engine.specs.rules.Answers.{refusalNumber, outcomeOfAnswer, countOf}
+use Rattle.engine.specs.claims.Calls.{Opens, Applied}
+use Rattle.host.specs.rules.Host.{hostAnswer, outcomeOf, openCount, hostOpening, wordsOpened}
+use Rattle.host.specs.claims.Calls.{HostOpened, AnswerFits, AnswerTold, EventApplied, HostApplied}
 use Rattle.engine.proofs.refinement.OpeningLaws.{fresh-length, opened-book-with, opened-venue-with}
 use Rattle.engine.proofs.refinement.ApplyLaws.{step-by-refusal, not-refused}
 use Rattle.engine.proofs.bytes.BoundLaws.{reports-room}
 use Rattle.engine.proofs.bytes.RecordLaws.{record-unique}
-use Rattle.engine.proofs.refinement.CallLaws.{event-lastId}
+use Rattle.engine.proofs.demand3.CallLaws.{event-lastId}
 
 -- refusals are from 1 on, and few enough for a number of 32 bits
 

@@ -10,8 +10,9 @@ use Rattle.engine.specs.declared.Event.{Event}
 use Rattle.engine.specs.rules.Refusals.{leastBuffer}
 use Rattle.engine.specs.rules.Records.{recordAt}
 use Rattle.engine.specs.rules.Layout.{venueOf}
-use Rattle.engine.specs.claims.Calls.{HostCall, Chain, LawfulCalls, reportsGot}
-use Rattle.host.specs.rules.Host.{hostAnswer, outcomeOf, HostOpened, AnswerTold, RecordRefused, HostApplied}
+use Rattle.engine.specs.claims.Calls.{AppliedCall, Chain, LawfulCalls, reportsGot}
+use Rattle.host.specs.rules.Host.{hostAnswer, outcomeOf}
+use Rattle.host.specs.claims.Calls.{HostOpened, AnswerTold, RecordRefused, HostApplied}
 
 -- one call: the bytes of the record and the report buffer that the host lends, the number answered, and the buffer afterwards
 pub record ApplyCall : Type 0 where
@@ -43,8 +44,8 @@ eventCalls [] = []
 eventCalls (c ∷ cs) = withEvent (recordAt (c .bytes) 0) c (eventCalls cs)
 
 -- what the account is fed of such a call: the event, the answer that the number says, and the buffer, from which it reads the reports
-abbrev pub hostCall : EventCall → HostCall
-hostCall c = record { event = c.event; lent = c.call.lent; answer = outcomeOf (c .call .answer); after = c.call.after }
+abbrev pub appliedCall : EventCall → AppliedCall
+appliedCall c = record { event = c.event; lent = c.call.lent; answer = outcomeOf (c .call .answer); after = c.call.after }
 
 -- What holds of every chain
 
@@ -60,7 +61,7 @@ UnreadableRefused =
 
 -- a call whose record reads as an event is a call of apply, and any other leaves the words as they were
 abbrev pub EventsOfCalls : Type 0
-EventsOfCalls = (w : List ℕ) (cs : List ApplyCall) (w′ : List ℕ) → ApplyChain w cs w′ → Chain w (map hostCall (eventCalls cs)) w′
+EventsOfCalls = (w : List ℕ) (cs : List ApplyCall) (w′ : List ℕ) → ApplyChain w cs w′ → Chain w (map appliedCall (eventCalls cs)) w′
 
 -- From the words that venue_open leaves with the answer 0; the run may be longer than a venue
 
@@ -68,7 +69,7 @@ EventsOfCalls = (w : List ℕ) (cs : List ApplyCall) (w′ : List ℕ) → Apply
 abbrev pub Demand3OfHosts : Type 0
 Demand3OfHosts =
     (w : List ℕ) (close : ℕ) (w₀ : List ℕ) → HostOpened w close 0 w₀ →
-    (cs : List ApplyCall) (w′ : List ℕ) → ApplyChain w₀ cs w′ → LawfulCalls close (map hostCall (eventCalls cs)) w′
+    (cs : List ApplyCall) (w′ : List ℕ) → ApplyChain w₀ cs w′ → LawfulCalls close (map appliedCall (eventCalls cs)) w′
 
 -- "No venue reached from open gets 16": no call answers 16 × 65,536
 abbrev pub NoHostGets16 : Type 0
@@ -83,7 +84,7 @@ LongBuffer c = leastBuffer ≤ length (c .call .lent)
 
 pub record SameForHosts (cs ds : List EventCall) (w v : List ℕ) : Type 0 where
   pub answers : map (λ (c : EventCall). c .call .answer) cs ≡ map (λ (c : EventCall). c .call .answer) ds
-  pub reports : map (λ (c : EventCall). reportsGot (hostCall c)) cs ≡ map (λ (c : EventCall). reportsGot (hostCall c)) ds
+  pub reports : map (λ (c : EventCall). reportsGot (appliedCall c)) cs ≡ map (λ (c : EventCall). reportsGot (appliedCall c)) ds
   pub venue : venueOf w ≡ venueOf v
 
 abbrev pub EqualHostReports : Type 0

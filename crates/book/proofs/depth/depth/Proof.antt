@@ -51,7 +51,8 @@ use denote.Triple.Walked.{says, Stays, stay-none-slice, stay-none, walkOf, AllGo
 use denote.Triple.Clauses.{ensured, lasts}
 use denote.Exit.{yes}
 use Rattle.prices.proofs.Returned.{returned}
-use Rattle.book.specs.rules.Depth.{sharesShown, depthOutcome, outcomeOfDepth, recordsRead}
+use Rattle.book.specs.rules.Depth.{sharesShown, depthOutcome, outcomeOfDepth}
+use Rattle.book.specs.steps.LentRuns.{recordsRead}
 use Rattle.book.specs.declared.OrderRecord.{OrderRecord}
 use Rattle.book.specs.declared.Side.{Side}
 use Rattle.book.specs.declared.DepthAnswer.{DepthAnswer}

@@ -1,6 +1,5 @@
 -- Each return has the case and the tests that lead there. Assumes nothing.
 use borrow.Author.Needs.{needs}
-use borrow.Author.Tests.{eq-eqb, ne-eqb}
 use Rattle.book.specs.rules.Depth.{onSide}
 use Rattle.book.proofs.refinement.DepthLaws.{sell-zero, sell-other}
 use Rattle.book.proofs.depth.on_side.Statement.{statement}

@@ -1,7 +1,7 @@
 -- Each return has the test that leads there. Assumes nothing.
 use borrow.Author.Tests.{lt-ltb, le-ltb}
 use Rattle.numbers.specs.Tests.{pick}
-use Rattle.book.specs.rules.Depth.{recordsRead}
+use Rattle.book.specs.steps.LentRuns.{recordsRead}
 use Rattle.book.proofs.depth.records_read.Statement.{statement}
 use Rattle.book.proofs.depth.records_read.Tie as tie
 

@@ -1,8 +1,9 @@
 -- `bits_sound`: four words of one bit. Assumes nothing.
 use Prim.Native.Nat.{ℕ}
 use mathlib.Core.Path.{_≡_, _∙_}
-use mathlib.Core.Bool.{_&&_}
+use mathlib.Core.Bool.{true, _&&_}
 use lib.Dec.{leb}
+use Rattle.numbers.proofs.TestLaws.{and-last}
 use Rattle.book.specs.rules.Words.{flagsAt}
 use Rattle.book.specs.steps.RecordWalk.{bitsAt}
 use Rattle.book.proofs.refinement.SoundOrderLaws.{four-bits}
@@ -10,8 +11,8 @@ use borrow.Author.Needs.{needs}
 use Rattle.book.proofs.sound.bits_sound.Statement.{statement}
 use Rattle.book.proofs.sound.bits_sound.Tie as tie
 
-same-bits : {a b c d a′ b′ c′ d′ : ℕ} → a ≡ a′ → b ≡ b′ → c ≡ c′ → d ≡ d′ → (leb a 1 && (leb b 1 && (leb c 1 && leb d 1))) ≡ (leb a′ 1 && (leb b′ 1 && (leb c′ 1 && leb d′ 1)))
-same-bits h₁ h₂ h₃ h₄ = cc (h₁, h₂, h₃, h₄)
+same-bits : {a b c d a′ b′ c′ d′ : ℕ} → a ≡ a′ → b ≡ b′ → c ≡ c′ → d ≡ d′ → (leb a 1 && (leb b 1 && (leb c 1 && leb d 1))) ≡ (leb a′ 1 && (leb b′ 1 && (leb c′ 1 && (leb d′ 1 && true))))
+same-bits {d′ = d′} h₁ h₂ h₃ h₄ = cc (h₁, h₂, h₃, h₄, and-last (leb d′ 1))
 
 word-at-requires : tie.Need-word-at-requires
 word-at-requires c κs = search needs

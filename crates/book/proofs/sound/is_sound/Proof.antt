@@ -38,7 +38,11 @@ place-sound-requires : tie.Need-place-sound-requires Inv-loop μ-loop
 place-sound-requires c κs = let k = c .before .loop .inv .0 in (k .header .long, omega (arith, c .loop-test .taken, k .header .few, c .before .loop .inv .1), c .before .loop .inv .2)
 
 returns-2 : tie.Need-returns-2 Inv-loop μ-loop
-returns-2 c = let s = c .before .before .before .before .before .before .before .before .before in let w = s .args .w .now in let a = s .args .last-id in let b = s .args .last-stamp in unsound-place a b w (c .before .before .before .loop .i) (omega (arith, c .before .before .loop-test .taken, c .before .before .before .loop .inv .1)) (sym (c .before .place-sound .ensures) ∙ not-yes (c .before .place-sound .result) (c .if2 .taken))
+returns-2 c =
+    let placed = c .before in
+    let turn = placed .before .before in
+    let s = turn .before .before .before .before .before .before in
+    unsound-place (s .args .last-id) (s .args .last-stamp) (s .args .w .now) (turn .loop .i) (omega (arith, placed .before .loop-test .taken, turn .loop .inv .1)) (sym (placed .place-sound .ensures) ∙ not-yes (placed .place-sound .result) (c .if2 .taken))
 
 word-at-requires : tie.Need-word-at-requires Inv-loop μ-loop
 word-at-requires c κs = search needs
@@ -53,10 +57,20 @@ array-read-last : tie.Need-array-read-last Inv-loop μ-loop
 array-read-last c = search needs
 
 stamp-seen-requires : tie.Need-stamp-seen-requires Inv-loop μ-loop
-stamp-seen-requires c κs = let k = c .before .before .before .before .before .before .loop .inv .0 in (k .header .long, omega (arith, k .inside, k .header .few), k .chains .linked, k .chains .lasts (c .before .wide2 .result) (omega (arith, c .before .wide2 .ensures)) ∙ ap (λ (x : ℕ). lastIn (c .before .before .before .before .before .before .before .before .before .before .before .before .args .w .now) x (c .before .before .before .before .before .before .loop .i)) (c .before .wide2 .ensures))
+stamp-seen-requires c κs =
+    let looked = c .before in
+    let turn = looked .before .before .before .before .before in
+    let w = turn .before .before .before .before .before .before .args .w .now in
+    let k = turn .loop .inv .0 in
+    (k .header .long, omega (arith, k .inside, k .header .few), k .chains .linked, k .chains .lasts (looked .wide2 .result) (omega (arith, looked .wide2 .ensures)) ∙ ap (λ (x : ℕ). lastIn w x (turn .loop .i)) (looked .wide2 .ensures))
 
 returns-3 : tie.Need-returns-3 Inv-loop μ-loop
-returns-3 c = let s = c .before .before .before .before .before .before .before .before .before .before .before .before .before .before in let w = s .args .w .now in let a = s .args .last-id in let b = s .args .last-stamp in seen-stamp a b w (c .before .before .before .before .before .before .before .before .loop .i) (c .before .before .before .before .word-at .result) (omega (arith, c .before .before .before .before .before .before .before .loop-test .taken, c .before .before .before .before .before .before .before .before .loop .inv .1)) (c .before .before .before .before .word-at .ensures) (sym (c .before .stamp-seen .ensures) ∙ c .if3 .taken)
+returns-3 c =
+    let stamp = c .before .before .before .before in
+    let tested = stamp .before .before .before in
+    let turn = tested .before in
+    let s = turn .before .before .before .before .before .before in
+    seen-stamp (s .args .last-id) (s .args .last-stamp) (s .args .w .now) (turn .loop .i) (stamp .word-at .result) (omega (arith, tested .loop-test .taken, turn .loop .inv .1)) (stamp .word-at .ensures) (sym (c .before .stamp-seen .ensures) ∙ c .if3 .taken)
 
 mul-links : tie.Need-mul-links Inv-loop μ-loop
 mul-links c = search needs
@@ -86,7 +100,15 @@ loop-less : tie.Need-loop-less Inv-loop μ-loop
 loop-less c = search needs
 
 loop-again : tie.Need-loop-again Inv-loop μ-loop
-loop-again c = let s = c .before .before .before .before .before .before .before .before .before .before .before .before .before .before .before in let w = s .args .w .now in let a = s .args .last-id in let b = s .args .last-stamp in (walked-more a b w (c .before .before .before .before .before .word-at .result) (c .before .before .before .before .wide2 .result) _ (c .before .before .before .before .before .before .before .before .before .loop .inv .0) (omega (arith, c .before .before .before .before .before .before .before .before .loop-test .taken, c .before .before .before .before .before .before .before .before .before .loop .inv .1)) (c .before .before .before .before .before .word-at .ensures) (c .before .before .before .before .wide2 .ensures) refl (sym (c .before .before .before .before .before .before .before .place-sound .ensures) ∙ not-no (c .before .before .before .before .before .before .before .place-sound .result) (c .before .before .before .before .before .before .if2 .left)) (sym (c .before .before .stamp-seen .ensures) ∙ c .before .if3 .left), c .before .before .before .before .before .before .before .before .before .loop .inv .1, c .word-at2 .ensures ∙ idBefore-next w (c .before .before .before .before .before .before .before .before .before .loop .i))
+loop-again c =
+    let seen = c .before .before in
+    let looked = seen .before .before in
+    let stamp = looked .before in
+    let placed = stamp .before .before in
+    let turn = placed .before .before in
+    let s = turn .before .before .before .before .before .before in
+    let w = s .args .w .now in
+    (walked-more (s .args .last-id) (s .args .last-stamp) w (stamp .word-at .result) (looked .wide2 .result) _ (turn .loop .inv .0) (omega (arith, placed .before .loop-test .taken, turn .loop .inv .1)) (stamp .word-at .ensures) (looked .wide2 .ensures) refl (sym (placed .place-sound .ensures) ∙ not-no (placed .place-sound .result) (stamp .before .if2 .left)) (sym (seen .stamp-seen .ensures) ∙ c .before .if3 .left), turn .loop .inv .1, c .word-at2 .ensures ∙ idBefore-next w (turn .loop .i))
 
 returns-4 : tie.Need-returns-4 Inv-loop μ-loop
 returns-4 c = let s = c .before .before .before .before .before .before .before in let w = s .args .w .now in let a = s .args .last-id in let b = s .args .last-stamp in walked-all a b w (c .before .loop .inv .0) (omega (arith, c .loop-test .left, c .before .loop .inv .1))

@@ -1,6 +1,6 @@
 -- `place_sound` by its three tests. Assumes nothing.
 use mathlib.Core.Path.{_≡_, sym, ap₂, _∙_}
-use mathlib.Core.Bool.{true, false, _&&_}
+use mathlib.Core.Bool.{true, false}
 use borrow.Author.Tests.{lt-ltb, le-ltb}
 use lib.Dec.{T, leb, ltb, leb→le}
 use Rattle.book.specs.rules.Words.{word, flagsAt}

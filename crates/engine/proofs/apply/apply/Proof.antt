@@ -1,7 +1,7 @@
 -- A refused event changes nothing; any other is done. Assumes nothing.
 use mathlib.Core.Path.{sym, ap, _∙_}
 use borrow.Author.Needs.{needs}
-use Rattle.engine.specs.claims.Calls.{refusedWith}
+use Rattle.engine.specs.rules.Answers.{refusedWith}
 use Rattle.engine.proofs.refinement.ApplyLaws.{applied-refused, applied-accepted}
 use Rattle.engine.proofs.apply.apply.Statement.{statement}
 use Rattle.engine.proofs.apply.apply.Tie as tie

@@ -57,7 +57,8 @@ use Rattle.book.specs.declared.OrderRecord.{OrderRecord}
 use Rattle.book.specs.rules.Words.{resting}
 use Rattle.book.specs.steps.BookSteps.{Book}
 use Rattle.engine.specs.declared.CopyAnswer.{CopyAnswer}
-use Rattle.engine.specs.rules.Copy.{copyOutcome, outcomeOfCopy, filledBy}
+use Rattle.engine.specs.rules.Copy.{copyOutcome, outcomeOfCopy}
+use Rattle.engine.specs.steps.Steps.{filledBy}
 use Rattle.engine.proofs.refinement.CopyLaws.{fillTo, fill-none, fill-next, fill-length, recordOut, copies, copy-is, turn-within}
 use Rattle.book.proofs.refinement.LentRecords as R
 use Rattle.book.proofs.record.record_at as a

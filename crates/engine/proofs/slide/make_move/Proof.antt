@@ -31,7 +31,7 @@ write-cancelled-requires c κs =
     room-one (a .reports .now) (a .at) (cancelled (a .o .id) (a .o .shares) optOut) (move-room (a .reports .now) (a .at) (a .o) l (a .stamp) (c .before .enum-told2 .given .1) (s .pre .1))
 
 remove-requires : tie.Need-remove-requires
-remove-requires c κs = (c .before .before .before .before .before .before .before .before .before .pre .0 .0 .book, c .before .before .before .before .before .before .before .before .before .pre .0 .1, c .before .before .before .before .before .before .before .before .before .pre .0 .0 .rises)
+remove-requires c κs = let p = c .before .before .before .before .before .before .before .before .before .pre .0 in (p .0 .book, p .1, p .0 .rises)
 
 enum-known-made : tie.Need-enum-known-made
 enum-known-made c = search needs

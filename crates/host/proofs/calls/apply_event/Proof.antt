@@ -1,8 +1,8 @@
 -- The answer of apply as a number; its byte count fits. Assumes nothing.
 use native.Mathlib.Omega.{arith}
 use borrow.Author.Needs.{needs}
-use Rattle.engine.specs.claims.Calls.{outcomeOfAnswer}
-use Rattle.host.specs.rules.Host.{AnswerFits}
+use Rattle.engine.specs.rules.Answers.{outcomeOfAnswer}
+use Rattle.host.specs.claims.Calls.{AnswerFits}
 use Rattle.host.proofs.refinement.HostLaws.{applied-fits, event-applied}
 use Rattle.host.proofs.calls.apply_event.Statement.{statement}
 use Rattle.host.proofs.calls.apply_event.Tie as tie

@@ -3,7 +3,7 @@ use native.Mathlib.Omega.{arith}
 use mathlib.Core.Path.{subst}
 use Rattle.engine.specs.declared.CopyAnswer.{CopyAnswer}
 use Rattle.engine.specs.rules.Copy.{outcomeOfCopy}
-use Rattle.host.specs.rules.Host.{AnswerFits}
+use Rattle.host.specs.claims.Calls.{AnswerFits}
 use borrow.Author.Needs.{needs}
 use Rattle.host.proofs.observe.copy_number.Statement.{statement}
 use Rattle.host.proofs.observe.copy_number.Tie as tie

@@ -48,7 +48,8 @@ use Rattle.engine.proofs.copy.copy_out as a
 use Rattle.engine.proofs.copy.copy_out.Symbol as a-def
 use Rattle.engine.proofs.copy.copy_out.Symbol.{name as #copy-out}
 use Rattle.engine.proofs.copy.copy_out.Met as a-thm
-use Rattle.host.specs.rules.Host.{hostAnswer, AnswerFits}
+use Rattle.host.specs.rules.Host.{hostAnswer}
+use Rattle.host.specs.claims.Calls.{AnswerFits}
 use Rattle.host.proofs.refinement.CopyCount.{copy-fits}
 use Rattle.host.proofs.observe.copy_number as k
 use Rattle.host.proofs.observe.copy_number.Symbol as k-def

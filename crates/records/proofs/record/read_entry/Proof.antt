@@ -1,8 +1,8 @@
 -- The entry of the seven fields that were read, or their refusal. Assumes nothing.
 use mathlib.Core.Path.{sym, ap, _∙_}
 use Rattle.numbers.specs.Tests.{pick}
-use Rattle.engine.specs.rules.Records.{eventOf, eventFrom}
-use Rattle.records.specs.RecordAnswers.{outcomeOfFields}
+use Rattle.engine.specs.rules.Records.{eventOf}
+use Rattle.records.specs.RecordAnswers.{eventFrom, outcomeOfFields}
 use borrow.Author.Needs.{needs}
 use Rattle.records.proofs.record.read_entry.Statement.{statement}
 use Rattle.records.proofs.record.read_entry.Tie as tie

@@ -1,7 +1,6 @@
 -- The event of the field that was read, or its refusal. Assumes nothing.
 use mathlib.Core.Path.{sym, ap, _∙_}
-use Rattle.engine.specs.rules.Records.{eventFrom}
-use Rattle.records.specs.RecordAnswers.{outcomeOfField}
+use Rattle.records.specs.RecordAnswers.{eventFrom, outcomeOfField}
 use borrow.Author.Needs.{needs}
 use Rattle.records.proofs.record.read_single.Statement.{statement}
 use Rattle.records.proofs.record.read_single.Tie as tie

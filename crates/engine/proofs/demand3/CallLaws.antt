@@ -24,8 +24,9 @@ use Rattle.engine.specs.rules.Refusals.{leastBuffer, refusal}
 use Rattle.engine.specs.rules.Run.{Step, stepUnless, step, Call, Run, run}
 use Rattle.engine.specs.rules.Records.{recordNumbers, reportsBytes}
 use Rattle.engine.specs.claims.RoundTrips.{Word, ReportWords}
-use Rattle.engine.specs.rules.Layout.{venueOf}
-use Rattle.engine.specs.claims.Calls.{stepIn, countOf, bufferAfter, Applied, HostCall, Chain, none, more, LawfulCalls, withReports, readOf, answeredOf, Demand3OfCalls, NoCallGets16, bytesGot, reportsGot, LongEnough, SameForBoth, EqualReports}
+use Rattle.engine.specs.rules.Layout.{venueOf, stepIn}
+use Rattle.engine.specs.rules.Answers.{countOf, bufferAfter}
+use Rattle.engine.specs.claims.Calls.{Applied, AppliedCall, Chain, none, more, LawfulCalls, withReports, readOf, answeredOf, Demand3OfCalls, NoCallGets16, bytesGot, reportsGot, LongEnough, SameForBoth, EqualReports}
 use Rattle.engine.proofs.refinement.RefusalLaws.{NotRefused, Unless, refusal-known}
 use Rattle.engine.proofs.refinement.OpeningLaws.{opening-gives, opened-book, opened-venue, step-in}
 use Rattle.engine.proofs.demand3.ReachedLaws.{reached-is-sound}
@@ -77,15 +78,15 @@ buffer-reads e b (refuses k) h = refl
 
 -- a chain is a run
 
-abbrev callOf : HostCall → Call
+abbrev callOf : AppliedCall → Call
 callOf c = record { event = c.event; buffer = length (c .lent) }
 
-record IsRun (cs : List HostCall) (w′ : List ℕ) (r : Run) : Type 0 where
+record IsRun (cs : List AppliedCall) (w′ : List ℕ) (r : Run) : Type 0 where
   layout : T (isBook w′)
   venue : venueOf w′ ≡ r.venue
   readable : map answeredOf cs ≡ map some (r .answered)
 
-chain-run : {w w′ : List ℕ} {cs : List HostCall} → T (isBook w) → Word (venueOf w .lastId) → Chain w cs w′ → IsRun cs w′ (run (venueOf w) (map callOf cs))
+chain-run : {w w′ : List ℕ} {cs : List AppliedCall} → T (isBook w) → Word (venueOf w .lastId) → Chain w cs w′ → IsRun cs w′ (run (venueOf w) (map callOf cs))
 unfolding run
 chain-run t i none = record { layout = t; venue = refl; readable = refl }
 chain-run {w} {w′} t i (more {w₁ = w₁} {c = c} {cs = cs} h a r) =
@@ -101,11 +102,11 @@ chain-run {w} {w′} t i (more {w₁ = w₁} {c = c} {cs = cs} h a r) =
 
 -- from words that mean a fresh venue
 module _ (close : ℕ) (t : T (legal close)) {w₀ : List ℕ} (u : T (isBook w₀)) (f : venueOf w₀ ≡ opened close) where
-  fresh-run : {cs : List HostCall} {w : List ℕ} → Chain w₀ cs w → IsRun cs w (run (opened close) (map callOf cs))
+  fresh-run : {cs : List AppliedCall} {w : List ℕ} → Chain w₀ cs w → IsRun cs w (run (opened close) (map callOf cs))
   unfolding opened
   fresh-run {cs} {w} c = subst (λ (v : Venue). IsRun cs w (run v (map callOf cs))) f (chain-run u (rw f (omega arith)) c)
 
-  pub demand3-from : (cs : List HostCall) (w′ : List ℕ) → Chain w₀ cs w′ → LawfulCalls close cs w′
+  pub demand3-from : (cs : List AppliedCall) (w′ : List ℕ) → Chain w₀ cs w′ → LawfulCalls close cs w′
   unfolding venueOf
   demand3-from cs w′ c =
       let r = fresh-run c in
@@ -116,7 +117,7 @@ module _ (close : ℕ) (t : T (legal close)) {w₀ : List ℕ} (u : T (isBook w�
         lawful = rw (ap (λ (v : Venue). v .orders) (r .venue)) (demand3 close (opened close) (opening-gives close t) (map callOf cs));
       }
 
-  pub no-16-from : (cs : List HostCall) (w : List ℕ) → Chain w₀ cs w → (e : Event) (b : List ℕ) (answer : Outcome ℕ) (w′ b′ : List ℕ) → Applied w e b answer w′ b′ → answer ≡ refuses 16 → ⊥
+  pub no-16-from : (cs : List AppliedCall) (w : List ℕ) → Chain w₀ cs w → (e : Event) (b : List ℕ) (answer : Outcome ℕ) (w′ b′ : List ℕ) → Applied w e b answer w′ b′ → answer ≡ refuses 16 → ⊥
   no-16-from cs w c e b answer w′ b′ a z =
       let r = fresh-run c in
       reached-is-sound close (opened close) (opening-gives close t) (map callOf cs) e (length b) (counted _ (sym (rw (step-in w e (length b) (r .layout), r .venue) at (a .answers)) ∙ z))
@@ -161,7 +162,7 @@ step-alike : (w v : List ℕ) (e : Event) (m n : ℕ) → isBook w ≡ isBook v 
 unfolding stepIn
 step-alike w v e m n q f h k = rw (q, f, step-same (venueOf v) e m n h k)
 
-pub both : {w v w′ v′ : List ℕ} {cs ds : List HostCall} → isBook w ≡ isBook v → venueOf w ≡ venueOf v → Chain w cs w′ → Chain v ds v′ → map (λ (c : HostCall). c .event) cs ≡ map (λ (c : HostCall). c .event) ds → All LongEnough cs → All LongEnough ds → SameForBoth cs ds w′ v′
+pub both : {w v w′ v′ : List ℕ} {cs ds : List AppliedCall} → isBook w ≡ isBook v → venueOf w ≡ venueOf v → Chain w cs w′ → Chain v ds v′ → map (λ (c : AppliedCall). c .event) cs ≡ map (λ (c : AppliedCall). c .event) ds → All LongEnough cs → All LongEnough ds → SameForBoth cs ds w′ v′
 both t e none none q h k = record { answers = refl; reports = refl; venue = e }
 both t e none (more y b d) q h k = let z : _≡_ {A = ℕ} 0 1 = cc in absurd (omega arith)
 both t e (more x a c) none q h k = let z : _≡_ {A = ℕ} 0 1 = cc in absurd (omega arith)
