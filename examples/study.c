@@ -1,5 +1,6 @@
 /* A small study: a short sale order slides over a day with a falling and rising national bid while the restriction is on.
-   It sends events to the venue and prints, from the reports alone, what becomes of order 1, and before the day ends the order as copy out gives it. examples/study.py is the same in Python.
+   It sends events to the venue and prints, from the reports alone, what becomes of order 1, and before the day ends the order as copy out
+   gives it. examples/study.py is the same in Python.
    Build and run, from the repository's root:
    rt staticlib host && cc -Wall -Wextra -Iinclude examples/study.c target/staticlib/libhost.a -o target/study && target/study */
 #include <inttypes.h>

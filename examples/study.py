@@ -1,6 +1,7 @@
 """A small study: a short sale order slides over a day with a falling and rising national bid while the restriction is on.
 
-It sends events to the venue and prints, from the reports alone, what becomes of order 1, and before the day ends the order as copy out gives it. examples/study.c is the same in C.
+It sends events to the venue and prints, from the reports alone, what becomes of order 1, and before the day ends the order as copy out
+gives it. examples/study.c is the same in C.
 Build and run, from the repository's root:
 rt staticlib host && cc -shared -o target/libvenue.so -Wl,--whole-archive target/staticlib/libhost.a -Wl,--no-whole-archive && python3 examples/study.py
 """

@@ -61,7 +61,7 @@ pub enum Move {
 
 // What is left of a working order, and the offset behind its reports.
 pub struct WorkingOrder {
-    pub rest: Order,
+    pub left: Order,
     pub end: usize,
 }
 

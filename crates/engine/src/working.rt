@@ -135,29 +135,29 @@ fn counterparty(w: &[u32], o: Order) -> Position
 fn meet(w: &mut [u32], reports: &mut [u8], at: usize, o: Order, i: usize) -> WorkingOrder
     requires { ⌜ Ordered (now w) × (i < length (resting (now w))) ⌝ }
     requires { ⌜ Room (now reports) at (executed (Matching.meeting o (getD (resting (now w)) i emptyOrder) (resting (now w)) .execution) ∷ []) ⌝ }
-    ensures { λ r. ⌜ Meets (now (w .entry)) (now (w .exit)) (now (reports .entry)) (now (reports .exit)) at (Matching.meeting o (getD (resting (now (w .entry))) i emptyOrder) (resting (now (w .entry)))) (r .rest) (r .end) ⌝ }
+    ensures { λ r. ⌜ Meets (now (w .entry)) (now (w .exit)) (now (reports .entry)) (now (reports .exit)) at (Matching.meeting o (getD (resting (now (w .entry))) i emptyOrder) (resting (now (w .entry)))) (r .left) (r .end) ⌝ }
 {
     let x = words::load(w, i);
     let q = smaller(o.shares, x.shares);
     let end = write_execution(reports, at, o, x, q);
     trade::trade(w, i, q);
-    let rest = trade::reduce(o, q);
-    WorkingOrder { rest, end }
+    let left = trade::reduce(o, q);
+    WorkingOrder { left, end }
 }
 
 // Trades o with the orders that it reaches, best first.
 fn match_order(w: &mut [u32], reports: &mut [u8], at: usize, o: Order) -> WorkingOrder
     requires { ⌜ MayEnter o (now w) × Room (now reports) at (executionReports (Matching.matching o (resting (now w)))) ⌝ }
-    ensures { λ r. ⌜ Matches (now (w .entry)) (now (w .exit)) (now (reports .entry)) (now (reports .exit)) at o (r .rest) (r .end) ⌝ }
+    ensures { λ r. ⌜ Matches (now (w .entry)) (now (w .exit)) (now (reports .entry)) (now (reports .exit)) at o (r .left) (r .end) ⌝ }
 {
-    let mut rest = o;
+    let mut left = o;
     let mut end = at;
-    while let Position::At(i) = counterparty(w, rest) {
-        let met = meet(w, reports, end, rest, i);
-        rest = met.rest;
+    while let Position::At(i) = counterparty(w, left) {
+        let met = meet(w, reports, end, left, i);
+        left = met.left;
         end = met.end;
     }
-    WorkingOrder { rest, end }
+    WorkingOrder { left, end }
 }
 
 // What becomes of a remainder.
@@ -200,7 +200,7 @@ pub(crate) fn work(w: &mut [u32], reports: &mut [u8], at: usize, o: Order) -> us
     ensures { λ r. ⌜ Does (now (w .entry)) (now (w .exit)) (now (reports .entry)) (now (reports .exit)) at (Working.work o (resting (now (w .entry))) .orders) (Working.work o (resting (now (w .entry))) .reports) r ⌝ }
 {
     let matched = match_order(w, reports, at, o);
-    let rest = matched.rest;
+    let left = matched.left;
     let end = matched.end;
-    rest_or_cancel(w, reports, end, rest)
+    rest_or_cancel(w, reports, end, left)
 }

@@ -1,6 +1,7 @@
--- A function that takes a run of n records by value and asks `book::depth::depth` of it meets its contract: a walk of its MIR, by hand. The array is lent as a slice for a lifetime that
--- is made for the call, and taken back when that has ended.
---     ended, clauses, function     the signature, the contract and the MIR of such a function.        lent-depth-meets     it meets the contract
+-- A function that takes a run of n records by value and asks `depth` of it meets its contract: a walk of its MIR, by hand. The array is lent as a
+-- slice for a lifetime that is made for the call, and taken back when that has ended.
+--     ended, clauses, function     the signature, the contract and the MIR of such a function
+--     lent-depth-meets             it meets the contract
 -- Assumes nothing.
 use mathlib.Core.Path.{_≡_, refl, sym, subst}
 use Prim.Native.Nat.{ℕ, _<_, _^_}

@@ -126,7 +126,10 @@ impl Pair {
             }
             1 => self.words[engine::COUNT_AT] = rng.pick(&[257, 1 << 16, 1 << 31, u32::MAX]),
             2 => self.lent_words = rng.pick(&[0, 1, 15, 16, 100, engine::VENUE_WORDS - 1]),
-            3 => self.words[engine::LAYOUT_AT] = rng.pick(&[0, 2, 15, 1 << 16, u32::MAX]),
+            3 => {
+                let others = [0, engine::LAYOUT - 1, engine::LAYOUT + 1, u32::MAX];
+                self.words[engine::LAYOUT_AT] = rng.pick(&others);
+            }
             _ => return,
         }
         self.is_no_record = true;

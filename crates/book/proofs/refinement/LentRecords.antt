@@ -1,10 +1,10 @@
--- The order record as the proofs by hand have it, for a run that is lent. They take its type, its machine values, its size and its laws from here and name no field, so
--- a further field of the record changes none of them.
---     the-row              its type.        mir     as MIR has it by value.        sliceOf     the MIR type of a lent run.        the-field     the type as a field of another
---     vals, val            its machine values, in a list and by itself.        tells, makes, lawful, typed     what is known of them
---     at                   the record of a run at an index
---     bytes, index-fits    its size, and that the offset of a record in a run is a usize
---     record-out, record-back, record-put      record i is taken out of an open run, and put back as it was, or another in its place.        looks-records      a run lent by `&` is opened
+-- The order record of a lent run, for the proofs by hand: they take its type, machine values, size and laws from here and name no field, so that
+-- a further field changes none of them.
+--     the-row, mir, sliceOf, the-field         its type; as MIR has it by value; the MIR type of a lent run of it; the type as a field
+--     vals, val, tells, makes, lawful, typed   its machine values, and what is known of them
+--     at, bytes, index-fits                    the record at an index; its size; the offset of a record in a run is a usize
+--     record-out, record-back, record-put      record i is taken out of an open run, put back as it was, or another put in its place
+--     looks-records                            a run lent by `&` is opened
 -- The laws and the steps assume `Given`.
 use Prim.Native.Nat.{ℕ, _+_, _-_, _*_, _<_, _^_}
 use native.Mathlib.Nat.{lt-of-le-of-lt, lt-trans, le-of-lt, mul-le-mul-right}

@@ -56,7 +56,7 @@ module _ (w : List ℕ) (o x : Order) (i q : ℕ) (ordered : Ordered w) (h : i <
   unfolding meeting
   meet-room b at r = omega (arith, room-one b at (executed (execution o y p)) r, ap length same-report)
 
-  pub meets : {w′ b b′ : List ℕ} {at e : ℕ} {rest : Order} → Put (reportBytes (executed (execution o x q))) at b e b′ → Holds w w′ (afterTrade (getD (resting w) i emptyOrder) q (resting w)) → rest ≡ reduced q o → Meets w w′ b b′ at (meeting o (getD (resting w) i emptyOrder) (resting w)) rest e
+  pub meets : {w′ b b′ : List ℕ} {at e : ℕ} {left : Order} → Put (reportBytes (executed (execution o x q))) at b e b′ → Holds w w′ (afterTrade (getD (resting w) i emptyOrder) q (resting w)) → left ≡ reduced q o → Meets w w′ b b′ at (meeting o (getD (resting w) i emptyOrder) (resting w)) left e
   unfolding meeting
   meets {w′} put holds rests =
       let k : Holds w w′ (afterTrade y p (resting w)) = subst (λ (n : ℕ). Holds w w′ (afterTrade y n (resting w))) same holds in
@@ -81,12 +81,12 @@ meeting-less o x os r d = go (decLe (x .shares) (o .shares))
     go (no h) = omega (arith, r .2, afterTrade-length (min (o .shares) (x .shares)) (r .0) d)
 
 -- what is left of the working order may enter what is left of the book
-meets-enters : {w w′ b b′ : List ℕ} {n e : ℕ} {o x rest : Order} → MayEnter o w → List·Memᴰ x (resting w) → Meets w w′ b b′ n (meeting o x (resting w)) rest e → MayEnter rest w′
+meets-enters : {w w′ b b′ : List ℕ} {n e : ℕ} {o x left : Order} → MayEnter o w → List·Memᴰ x (resting w) → Meets w w′ b b′ n (meeting o x (resting w)) left e → MayEnter left w′
 unfolding meeting
-meets-enters {w} {w′} {o = o} {x = x} {rest = rest} k member m =
+meets-enters {w} {w′} {o = o} {x = x} {left = left} k member m =
     let q : ℕ = min (o .shares) (x .shares) in
     let d = ordered-distinct (k .ordered) in
-    let same : rest .id ≡ o .id = ap (λ (a : Order). a .id) (m .rests) in
+    let same : left .id ≡ o .id = ap (λ (a : Order). a .id) (m .rests) in
     record {
       ordered = m .does .ordered;
       apart = subst (λ (i : ℕ). All (Other i) (resting w′)) (sym same) (subst (All (Other (o .id))) (sym (m .does .orders)) (afterTrade-all q member d (Other (o .id)) (λ z n l f. f) (k .apart)));
@@ -94,7 +94,7 @@ meets-enters {w} {w′} {o = o} {x = x} {rest = rest} k member m =
       few = omega (arith, ap length (m .does .orders), afterTrade-length q member d, k .few);
     }
 
--- matching as a loop: what is still to be done with the rest o and the words w gives what was to be done with o₀ and w₀
+-- matching as a loop: what is still to be done with o, which is left, and the words w gives what was to be done with o₀ and w₀
 pub record Matching (w₀ w b₀ b : List ℕ) (at n : ℕ) (o₀ o : Order) : Type 0 where
   pub enters : MayEnter o w
   pub orders : matching o₀ (resting w₀) .orders ≡ matching o (resting w) .orders
@@ -119,11 +119,11 @@ module _ {w₀ w b₀ b : List ℕ} {at n : ℕ} {o₀ o : Order} (x : Order) (f
   reached = subst (Reached o (resting w)) found (counterparty-reached o (resting w))
 
   abbrev later : List Order → Order → Matched
-  later os rest =
+  later os left =
       record {
-        executions = meeting o x (resting w) .execution ∷ matching rest os .executions;
-        left = matching rest os .left;
-        orders = matching rest os .orders;
+        executions = meeting o x (resting w) .execution ∷ matching left os .executions;
+        left = matching left os .left;
+        orders = matching left os .orders;
       }
 
   first : matching o (resting w) ≡ later (meeting o x (resting w) .orders) (meeting o x (resting w) .left)
@@ -132,20 +132,20 @@ module _ {w₀ w b₀ b : List ℕ} {at n : ℕ} {o₀ o : Order} (x : Order) (f
   pub matching-room : Room b₀ at (executionReports (matching o₀ (resting w₀))) → Room b n (executed (meeting o x (resting w) .execution) ∷ [])
   matching-room room = underway-room _ (executionReports (matching (meeting o x (resting w) .left) (meeting o x (resting w) .orders))) room (underway-as (ap executionReports first) (f .way))
 
-  module _ {w′ b′ : List ℕ} {n′ : ℕ} {rest : Order} (m : Meets w w′ b b′ n (meeting o x (resting w)) rest n′) where
-    next : matching o (resting w) ≡ later (resting w′) rest
+  module _ {w′ b′ : List ℕ} {n′ : ℕ} {left : Order} (m : Meets w w′ b b′ n (meeting o x (resting w)) left n′) where
+    next : matching o (resting w) ≡ later (resting w′) left
     next = first ∙ ap₂ later (sym (m .does .orders)) (sym (m .rests))
 
-    pub matching-then : Room b₀ at (executionReports (matching o₀ (resting w₀))) → Matching w₀ w′ b₀ b′ at n′ o₀ rest
+    pub matching-then : Room b₀ at (executionReports (matching o₀ (resting w₀))) → Matching w₀ w′ b₀ b′ at n′ o₀ left
     matching-then room =
         record {
           enters = meets-enters (f .enters) (reached .0) m;
           orders = f .orders ∙ ap (λ (z : Matched). z .orders) next;
           rests = f .rests ∙ ap (λ (z : Matched). z .left) next;
-          way = underway-then (executed (meeting o x (resting w) .execution) ∷ []) (executionReports (matching rest (resting w′))) room (underway-as (ap executionReports next) (f .way)) (m .does);
+          way = underway-then (executed (meeting o x (resting w) .execution) ∷ []) (executionReports (matching left (resting w′))) room (underway-as (ap executionReports next) (f .way)) (m .does);
         }
 
-    pub matching-less : length (resting w′) + rest .shares < length (resting w) + o .shares
+    pub matching-less : length (resting w′) + left .shares < length (resting w) + o .shares
     matching-less =
         omega (arith, meeting-less o x (resting w) reached (ordered-distinct (f .enters .ordered)), ap length (m .does .orders), ap (λ (a : Order). a .shares) (m .rests))
 
@@ -168,23 +168,23 @@ match-room w b at o h =
     let m : Matched = matching o (resting w) in
     room-first b at (executionReports m) (restedOrCancelled (m .left) (m .orders) .reports) h
 
-module _ {w w₁ b b₁ : List ℕ} {at n : ℕ} {o rest : Order} (f : Matches w w₁ b b₁ at o rest n) (room : Room b at (work o (resting w) .reports)) where
-  remainder-same : restedOrCancelled rest (resting w₁) ≡ restedOrCancelled (matching o (resting w) .left) (matching o (resting w) .orders)
+module _ {w w₁ b b₁ : List ℕ} {at n : ℕ} {o left : Order} (f : Matches w w₁ b b₁ at o left n) (room : Room b at (work o (resting w) .reports)) where
+  remainder-same : restedOrCancelled left (resting w₁) ≡ restedOrCancelled (matching o (resting w) .left) (matching o (resting w) .orders)
   remainder-same = ap₂ restedOrCancelled (f .rests) (f .does .orders)
 
-  work-reports : work o (resting w) .reports ≡ executionReports (matching o (resting w)) ++ restedOrCancelled rest (resting w₁) .reports
+  work-reports : work o (resting w) .reports ≡ executionReports (matching o (resting w)) ++ restedOrCancelled left (resting w₁) .reports
   unfolding work
   work-reports = ap (λ (z : Worked). executionReports (matching o (resting w)) ++ z .reports) (sym remainder-same)
 
-  work-orders : work o (resting w) .orders ≡ restedOrCancelled rest (resting w₁) .orders
+  work-orders : work o (resting w) .orders ≡ restedOrCancelled left (resting w₁) .orders
   unfolding work
   work-orders = ap (λ (z : Worked). z .orders) (sym remainder-same)
 
-  all-room : Room b at (executionReports (matching o (resting w)) ++ restedOrCancelled rest (resting w₁) .reports)
+  all-room : Room b at (executionReports (matching o (resting w)) ++ restedOrCancelled left (resting w₁) .reports)
   all-room = room-as b at work-reports room
 
-  pub rest-room : Room b₁ n (restedOrCancelled rest (resting w₁) .reports)
-  rest-room = room-then (executionReports (matching o (resting w))) (restedOrCancelled rest (resting w₁) .reports) all-room (f .does .wrote)
+  pub rest-room : Room b₁ n (restedOrCancelled left (resting w₁) .reports)
+  rest-room = room-then (executionReports (matching o (resting w))) (restedOrCancelled left (resting w₁) .reports) all-room (f .does .wrote)
 
-  pub works : {w₂ b₂ : List ℕ} {e : ℕ} → Does w₁ w₂ b₁ b₂ n (restedOrCancelled rest (resting w₁) .orders) (restedOrCancelled rest (resting w₁) .reports) e → Does w w₂ b b₂ at (work o (resting w) .orders) (work o (resting w) .reports) e
+  pub works : {w₂ b₂ : List ℕ} {e : ℕ} → Does w₁ w₂ b₁ b₂ n (restedOrCancelled left (resting w₁) .orders) (restedOrCancelled left (resting w₁) .reports) e → Does w w₂ b b₂ at (work o (resting w) .orders) (work o (resting w) .reports) e
   works d = does-as (sym work-orders) (sym work-reports) (does-then all-room (f .does) d)

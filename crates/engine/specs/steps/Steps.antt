@@ -29,20 +29,20 @@ pub record MayEnter (o : Order) (w : List ℕ) : Type 0 where
   pub positive : 0 < o .id
   pub few : length (resting w) < 256
 
--- one meeting, done: rest is left of the working order
-pub record Meets (w w′ b b′ : List ℕ) (at : ℕ) (x : Meeting) (rest : Order) (end : ℕ) : Type 0 where
+-- one meeting, done, and what is left of the working order
+pub record Meets (w w′ b b′ : List ℕ) (at : ℕ) (x : Meeting) (left : Order) (end : ℕ) : Type 0 where
   pub does : Does w w′ b b′ at (x .orders) (executed (x .execution) ∷ []) end
-  pub rests : rest ≡ x .left
+  pub rests : left ≡ x .left
 
 -- the reports of a working order's executions
 abbrev pub executionReports : Matched → List Report
 executionReports m = map executed (m .executions)
 
--- the working order o has matched; rest is left of it, and may enter
-pub record Matches (w w′ b b′ : List ℕ) (at : ℕ) (o rest : Order) (end : ℕ) : Type 0 where
+-- the working order o has matched; what is left of it may enter
+pub record Matches (w w′ b b′ : List ℕ) (at : ℕ) (o left : Order) (end : ℕ) : Type 0 where
   pub does : Does w w′ b b′ at (matching o (resting w) .orders) (executionReports (matching o (resting w))) end
-  pub rests : rest ≡ matching o (resting w) .left
-  pub enters : MayEnter rest w′
+  pub rests : left ≡ matching o (resting w) .left
+  pub enters : MayEnter left w′
 
 -- what becomes of the remainder o
 abbrev pub restedOrCancelled : Order → List Order → Worked

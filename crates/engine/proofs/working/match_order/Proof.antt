@@ -13,13 +13,13 @@ use Rattle.engine.proofs.working.match_order.Statement.{statement}
 use Rattle.engine.proofs.working.match_order.Tie as tie
 
 abbrev Inv-loop : tie.InvT-loop
-Inv-loop w₀ reports₀ at rest₀ end₀ w reports rest end = Matching w₀ w reports₀ reports at end rest₀ rest
+Inv-loop w₀ reports₀ at rest₀ end₀ w reports left end = Matching w₀ w reports₀ reports at end rest₀ left
 
 abbrev μ-loop : tie.MeasureT-loop
-μ-loop w₀ reports₀ at rest₀ end₀ w reports rest end = length (resting w) + rest .shares
+μ-loop w₀ reports₀ at rest₀ end₀ w reports left end = length (resting w) + left .shares
 
 -- the order that is met stands at the position found
-found : (c : tie.After-known-told Inv-loop μ-loop) → let l = resting (c .before .before .before .before .before .loop .w) in counterparty (c .before .before .before .before .before .loop .rest) l ≡ some (getD l (c .before .i .given .0 .0) emptyOrder)
+found : (c : tie.After-known-told Inv-loop μ-loop) → let l = resting (c .before .before .before .before .before .loop .w) in counterparty (c .before .before .before .before .before .loop .left) l ≡ some (getD l (c .before .i .given .0 .0) emptyOrder)
 found c = sym (c .before .before .before .counterparty .ensures .is) ∙ ap (orderIn (resting (c .before .before .before .before .before .loop .w))) (c .before .i .given .1)
 
 within : (c : tie.After-known-told Inv-loop μ-loop) → c .before .i .given .0 .0 < length (resting (c .before .before .before .before .before .loop .w))

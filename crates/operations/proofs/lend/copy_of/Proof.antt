@@ -1,4 +1,5 @@
--- `operations::lend::copy_of` meets its contract: a walk of its MIR, by hand. A local array is lent as a `&mut [OrderRecord]` for a lifetime that is made for the call of `engine::copy::copy_out`, and taken back, at the list that the callee says, when that has ended.
+-- `copy_of` meets its contract: a walk of its MIR, by hand. A local array is lent as a `&mut [OrderRecord]` for a lifetime that is made for the call
+-- of `copy_out`, and taken back, at the list that the callee says, when that has ended.
 -- Assumes nothing.
 use mathlib.Core.Path.{_≡_, refl, sym, ap, subst}
 use Prim.Native.Nat.{ℕ}
