@@ -17,7 +17,7 @@ use Rattle.numbers.specs.Answers.{Outcome, gives, refuses, Read}
 use Rattle.numbers.specs.declared.Group.{Group}
 use Rattle.numbers.specs.declared.Group.the-variants.{More, Last, Bad}
 use Rattle.numbers.specs.SevenBit.{IsByte, bytesOf, judge, onGroup, byGroup, groupsAt, numberAt, Stands}
-use Rattle.numbers.proofs.TestLaws.{by-test, nand-T, neqb, tests}
+use Rattle.numbers.proofs.TestLaws.{by-test, nand-T, and-false, neqb, tests}
 use Rattle.numbers.proofs.PlaceLaws.{stands-first}
 use Rattle.numbers.proofs.ByteLaws.{bytes-last, bytes-more, length-last, length-more, length-positive}
 
@@ -30,7 +30,7 @@ judge-more k b h l = simp (ne-eqb k 9 h, le-leb 128 b l)
 pub judge-last : (k b : ℕ) → (k ≡ 9 → ⊥) → b < 128 → (0 < k → 0 < b) → judge k b ≡ Last
 unfolding judge pick
 judge-last zero b h l p = simp (lt-leb 128 b l)
-judge-last (suc k) b h l p = simp (ne-eqb (suc k) 9 h, lt-leb 128 b l, lt-ltb 0 (suc k) (omega arith), ne-eqb b 0 (λ e. omega (arith, p (omega arith))))
+judge-last (suc k) b h l p = simp (ne-eqb (suc k) 9 h, lt-leb 128 b l, ne-eqb b 0 (λ e. omega (arith, p (omega arith))), and-false)
 
 pub judge-tenth : (b : ℕ) → b < 2 → 0 < b → judge 9 b ≡ Last
 unfolding judge pick

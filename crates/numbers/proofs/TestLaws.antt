@@ -92,6 +92,10 @@ and-yes b e = rw e
 pub and-no : {a : Bool} (b : Bool) → a ≡ false → (a && b) ≡ false
 and-no b e = rw e
 
+pub and-false : (b : Bool) → (b && false) ≡ false
+and-false true = refl
+and-false false = refl
+
 pub and-last : (b : Bool) → (b && true) ≡ b
 and-last true = refl
 and-last false = refl
