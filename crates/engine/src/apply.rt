@@ -3,79 +3,110 @@ use crate::Answer;
 use crate::Entry;
 use crate::Event;
 use crate::MayRefuse;
+use crate::Refusal;
 use crate::enter;
+use crate::header;
 use crate::leave;
 use crate::quote;
 use crate::refuse;
 use book::Position;
 use book::search;
-ghost use mathlib.Core.Path.{_≡_};
-ghost use mathlib.Core.Option.{none};
+use book::words;
+use prices::increments;
+ghost use Prim.Native.Nat.{_≤_};
+ghost use lib.Dec.{T};
 ghost use lib.ListN.{length};
 ghost use Rattle.engine.specs.declared.Event.the-variants.{Entry as entry, Cancel as cancel, Bid as bid, Tape as tape, DayEnd as dayEnd};
-ghost use Rattle.engine.specs.steps.Memory.{refusalIn, Accepts};
+ghost use Rattle.engine.specs.rules.Refusals.{leastBuffer};
+ghost use Rattle.engine.specs.steps.Memory.{MayJudge};
 ghost use Rattle.engine.specs.claims.Calls.{Applied};
 ghost use Rattle.engine.specs.rules.Answers.{outcomeOfAnswer};
+ghost use Rattle.engine.specs.rules.Layout.{soundWords};
 
-fn accept_entry(w: &mut [u32], reports: &mut [u8], e: Entry) -> usize
-    requires { ⌜ refusalIn (now w) (entry e) (length (now reports)) ≡ none ⌝ }
-    ensures { λ r. ⌜ Accepts (now (w .entry)) (now (w .exit)) (now (reports .entry)) (now (reports .exit)) (entry e) r ⌝ }
+fn apply_entry(w: &mut [u32], reports: &mut [u8], e: Entry) -> Answer
+    requires { ⌜ MayJudge (now w) (now reports) ⌝ }
+    ensures { λ r. ⌜ Applied (now (w .entry)) (entry e) (now (reports .entry)) (outcomeOfAnswer r) (now (w .exit)) (now (reports .exit)) ⌝ }
 {
-    enter::enter(w, reports, e)
+    match refuse::entry_refusal(w, e) {
+        MayRefuse::Refuse(refusal) => Answer::Refused(refusal),
+        MayRefuse::Allow => Answer::Accepted(enter::enter(w, reports, e)),
+    }
 }
 
-// The order that a cancel takes out was found by the refusals, so it is found again.
-fn accept_cancel(w: &mut [u32], reports: &mut [u8], id: u32) -> usize
-    requires { ⌜ refusalIn (now w) (cancel id) (length (now reports)) ≡ none ⌝ }
-    ensures { λ r. ⌜ Accepts (now (w .entry)) (now (w .exit)) (now (reports .entry)) (now (reports .exit)) (cancel id) r ⌝ }
+fn apply_cancel(w: &mut [u32], reports: &mut [u8], id: u32) -> Answer
+    requires { ⌜ MayJudge (now w) (now reports) ⌝ }
+    ensures { λ r. ⌜ Applied (now (w .entry)) (cancel id) (now (reports .entry)) (outcomeOfAnswer r) (now (w .exit)) (now (reports .exit)) ⌝ }
 {
     match search::find(w, id) {
-        Position::At(i) => leave::cancel_order(w, reports, i),
-        Position::Absent => 0,
+        Position::At(i) => Answer::Accepted(leave::cancel_order(w, reports, i)),
+        Position::Absent => Answer::Refused(Refusal::NotResting),
     }
 }
 
-fn accept_bid(w: &mut [u32], reports: &mut [u8], price: u32) -> usize
-    requires { ⌜ refusalIn (now w) (bid price) (length (now reports)) ≡ none ⌝ }
-    ensures { λ r. ⌜ Accepts (now (w .entry)) (now (w .exit)) (now (reports .entry)) (now (reports .exit)) (bid price) r ⌝ }
+fn apply_bid(w: &mut [u32], reports: &mut [u8], price: u32) -> Answer
+    requires { ⌜ MayJudge (now w) (now reports) ⌝ }
+    ensures { λ r. ⌜ Applied (now (w .entry)) (bid price) (now (reports .entry)) (outcomeOfAnswer r) (now (w .exit)) (now (reports .exit)) ⌝ }
 {
-    quote::new_bid(w, reports, price)
+    if !increments::is_bid(price) {
+        return Answer::Refused(Refusal::PriceNotLegal);
+    }
+    Answer::Accepted(quote::new_bid(w, reports, price))
 }
 
-fn accept_tape(w: &mut [u32], reports: &mut [u8], price: u32) -> usize
-    requires { ⌜ refusalIn (now w) (tape price) (length (now reports)) ≡ none ⌝ }
-    ensures { λ r. ⌜ Accepts (now (w .entry)) (now (w .exit)) (now (reports .entry)) (now (reports .exit)) (tape price) r ⌝ }
+fn apply_tape(w: &mut [u32], reports: &mut [u8], price: u32) -> Answer
+    requires { ⌜ MayJudge (now w) (now reports) ⌝ }
+    ensures { λ r. ⌜ Applied (now (w .entry)) (tape price) (now (reports .entry)) (outcomeOfAnswer r) (now (w .exit)) (now (reports .exit)) ⌝ }
 {
-    quote::new_tape(w, reports, price)
+    if !increments::is_legal(price) {
+        return Answer::Refused(Refusal::PriceNotLegal);
+    }
+    Answer::Accepted(quote::new_tape(w, reports, price))
 }
 
-fn accept_day_end(w: &mut [u32], reports: &mut [u8], close: u32) -> usize
-    requires { ⌜ refusalIn (now w) (dayEnd close) (length (now reports)) ≡ none ⌝ }
-    ensures { λ r. ⌜ Accepts (now (w .entry)) (now (w .exit)) (now (reports .entry)) (now (reports .exit)) (dayEnd close) r ⌝ }
+fn apply_day_end(w: &mut [u32], reports: &mut [u8], close: u32) -> Answer
+    requires { ⌜ MayJudge (now w) (now reports) ⌝ }
+    ensures { λ r. ⌜ Applied (now (w .entry)) (dayEnd close) (now (reports .entry)) (outcomeOfAnswer r) (now (w .exit)) (now (reports .exit)) ⌝ }
 {
-    leave::end_day(w, reports, close)
+    if !increments::is_legal(close) {
+        return Answer::Refused(Refusal::PriceNotLegal);
+    }
+    Answer::Accepted(leave::end_day(w, reports, close))
 }
 
-// What an event does that isn't refused; the byte count of its reports.
-fn accept(w: &mut [u32], event: Event, reports: &mut [u8]) -> usize
-    requires { ⌜ refusalIn (now w) event (length (now reports)) ≡ none ⌝ }
-    ensures { λ r. ⌜ Accepts (now (w .entry)) (now (w .exit)) (now (reports .entry)) (now (reports .exit)) event r ⌝ }
+// The kind's own refusals, then what an event of the kind does.
+fn apply_kind(w: &mut [u32], event: Event, reports: &mut [u8]) -> Answer
+    requires { ⌜ MayJudge (now w) (now reports) ⌝ }
+    ensures { λ r. ⌜ Applied (now (w .entry)) event (now (reports .entry)) (outcomeOfAnswer r) (now (w .exit)) (now (reports .exit)) ⌝ }
 {
     match event {
-        Event::Entry(e) => accept_entry(w, reports, e),
-        Event::Cancel(id) => accept_cancel(w, reports, id),
-        Event::Bid(price) => accept_bid(w, reports, price),
-        Event::Tape(price) => accept_tape(w, reports, price),
-        Event::DayEnd(close) => accept_day_end(w, reports, close),
+        Event::Entry(e) => apply_entry(w, reports, e),
+        Event::Cancel(id) => apply_cancel(w, reports, id),
+        Event::Bid(price) => apply_bid(w, reports, price),
+        Event::Tape(price) => apply_tape(w, reports, price),
+        Event::DayEnd(close) => apply_day_end(w, reports, close),
     }
+}
+
+// An event of words that are known to be sound, with a buffer that is long enough: 16 and 1 aren't given. The words stay sound.
+pub fn apply_sound(w: &mut [u32], event: Event, reports: &mut [u8]) -> Answer
+    requires { ⌜ T (soundWords (now w)) × (leastBuffer ≤ length (now reports)) ⌝ }
+    ensures { λ r. ⌜ Applied (now (w .entry)) event (now (reports .entry)) (outcomeOfAnswer r) (now (w .exit)) (now (reports .exit)) × T (soundWords (now (w .exit))) ⌝ }
+{
+    if words::header_word(w, header::ACCEPTED_EVENTS) >= refuse::MOST_EVENTS {
+        return Answer::Refused(Refusal::EventsSpent);
+    }
+    apply_kind(w, event, reports)
 }
 
 // An event: any words, any event, any buffer. A refusal leaves every word and every byte as it was.
 pub fn apply(w: &mut [u32], event: Event, reports: &mut [u8]) -> Answer
     ensures { λ r. ⌜ Applied (now (w .entry)) event (now (reports .entry)) (outcomeOfAnswer r) (now (w .exit)) (now (reports .exit)) ⌝ }
 {
-    match refuse::event_refusal(w, event, reports.len()) {
-        MayRefuse::Refuse(refusal) => Answer::Refused(refusal),
-        MayRefuse::Allow => Answer::Accepted(accept(w, event, reports)),
+    if !refuse::venue_sound(w) {
+        return Answer::Refused(Refusal::VenueBroken);
     }
+    if reports.len() < refuse::LEAST_BUFFER {
+        return Answer::Refused(Refusal::BufferTooShort);
+    }
+    apply_sound(w, event, reports)
 }

@@ -7,7 +7,7 @@ mod leave;
 pub mod open;
 mod quote;
 pub mod refusals;
-mod refuse;
+pub mod refuse;
 mod report;
 mod slide;
 mod working;

@@ -18,7 +18,7 @@ use Rattle.engine.specs.claims.Reached.{ReachedIsSound, StampsBounded}
 use Rattle.engine.proofs.refinement.RefusalLaws.{NotRefused, Unless, refusal-known}
 use Rattle.prices.proofs.PriceLaws.{no-bid}
 use Rattle.engine.proofs.refinement.OpeningLaws.{opening-known}
-use Rattle.engine.proofs.demand3.SoundLaws.{SoundVenue, venue-sound, marketAfter-sound, effectOf-sound}
+use Rattle.engine.proofs.demand3.SoundLaws.{SoundVenue, sound-venue, venue-sound, marketAfter-sound, effectOf-sound}
 
 stepUnless-sound : (x : Option ℕ) (v : Venue) (e : Event) (n : ℕ) → Unless x (NotRefused v e n) → SoundVenue v → SoundVenue ((stepUnless x v e) .venue)
 unfolding stepUnless
@@ -26,6 +26,11 @@ stepUnless-sound (some k) v e n h g = g
 stepUnless-sound none v e n h g =
     let r = effectOf-sound v e (h .allowed) g in
     record { book = r .0; market = marketAfter-sound v e (h .allowed) (g .market); events = omega (arith, h .events); stamps = omega (arith, r .1, g .stamps) }
+
+-- one event, refused or not, leaves a sound venue
+pub step-sound : (v : Venue) (e : Event) (n : ℕ) → T (sound v) → T (sound ((step v e n) .venue))
+unfolding step
+step-sound v e n t = venue-sound _ (stepUnless-sound _ v e n (refusal-known v e n) (sound-venue v t))
 
 run-sound : (cs : List Call) (v : Venue) → SoundVenue v → SoundVenue ((run v cs) .venue)
 unfolding run step

@@ -1,28 +1,32 @@
 -- What apply is made of: the refusals over words decide the step, a refused call changes nothing, an accepted one does the event.
 -- Assumes nothing.
-use Prim.Native.Nat.{ℕ}
+use Prim.Native.Nat.{ℕ, _≤_, _<_}
 use native.Mathlib.Omega.{arith}
-use mathlib.Core.Path.{_≡_, refl, ap, subst}
+use mathlib.Core.Path.{_≡_, refl, ap, subst, _∙_}
 use mathlib.Core.Bool.{Bool, true, false}
 use mathlib.Core.Option.{Option, none, some}
 use mathlib.Core.List.{List}
 use lib.Dec.{T, leb→le}
 use lib.ListN.{length}
-use Rattle.numbers.specs.Answers.{gives, refuses}
-use Rattle.numbers.proofs.TestLaws.{by-test, T-true, T-false, and-yes, and-no}
+use borrow.Author.Tests.{le-leb, lt-leb, lt-ltb, le-ltb}
+use Rattle.numbers.specs.Answers.{Outcome, gives, refuses}
+use Rattle.numbers.proofs.TestLaws.{by-test, T-true, T-false, and-yes, and-no, and-T, T-and}
 use Rattle.book.specs.rules.Words.{isBook}
 use Rattle.book.proofs.refinement.WordLaws.{book-isBook}
 use Rattle.engine.specs.declared.Event.{Event}
 use Rattle.engine.specs.rules.Venue.{lastIdAfter}
-use Rattle.engine.specs.rules.Refusals.{refuseUnless, refusal}
+use Rattle.engine.specs.rules.Refusals.{refuseUnless, refusalOfKind, leastBuffer, refusal}
+use Rattle.engine.specs.rules.Sound.{mostEvents, sound}
 use Rattle.engine.specs.rules.Run.{Step, stepUnless, step}
 use Rattle.engine.specs.rules.Records.{reportsBytes}
 use Rattle.engine.specs.claims.RoundTrips.{Word}
-use Rattle.engine.specs.steps.Memory.{refusalIn, Room, effectIn, MayAccept, Accepts}
+use Rattle.engine.specs.steps.Memory.{refusalIn, MayJudge, Room, effectIn, MayAccept, Accepts}
 use Rattle.engine.specs.rules.Layout.{venueOf, soundWords, stepIn}
 use Rattle.engine.specs.claims.Calls.{Applied}
 use Rattle.engine.proofs.refinement.RefusalLaws.{Allowed, NotRefused, Unless, refusalOfKind-known}
-use Rattle.engine.proofs.refinement.RefuseLaws.{refuse-no, words-ordered, words-sound}
+use Rattle.engine.proofs.refinement.RefuseLaws.{refuse-yes, refuse-no, words-ordered, words-sound}
+use Rattle.engine.proofs.refinement.OpeningLaws.{step-in}
+use Rattle.engine.proofs.demand3.ReachedLaws.{step-sound}
 use Rattle.engine.proofs.bytes.BoundLaws.{reports-room}
 
 -- the step of words is what the refusals over them say
@@ -86,3 +90,51 @@ applied-accepted {w} {w′} {b} {b′} {e} {end} h a =
       same = a .same;
       refused = λ n x. let z : _≡_ {A = ℕ} 0 1 = cc in absurd (omega arith);
     }
+
+-- the refusals in their order
+
+module _ {w b : List ℕ} {e : Event} where
+  -- 16, 1 and 2
+  pub venue-broken : soundWords w ≡ false → Applied w e b (refuses 16) w b
+  unfolding refusalIn
+  venue-broken h = applied-refused w e b 16 (refuse-no _ _ _ h)
+
+  pub buffer-short : T (soundWords w) → length b < leastBuffer → Applied w e b (refuses 1) w b
+  unfolding refusalIn
+  buffer-short t l = applied-refused w e b 1 (refuse-yes _ _ _ (T-true (soundWords w) t) ∙ refuse-no _ _ _ (lt-leb leastBuffer (length b) l))
+
+  pub events-spent : T (soundWords w) → leastBuffer ≤ length b → mostEvents ≤ venueOf w .acceptedEvents → Applied w e b (refuses 2) w b
+  unfolding refusalIn
+  events-spent t l s =
+      applied-refused w e b 2 (refuse-yes _ _ _ (T-true (soundWords w) t) ∙ refuse-yes _ _ _ (le-leb leastBuffer (length b) l) ∙ refuse-no _ _ _ (le-ltb (venueOf w .acceptedEvents) mostEvents s))
+
+  -- the words after a call on sound words are sound
+  pub applied-sound : {w′ b′ : List ℕ} {o : Outcome ℕ} → T (soundWords w) → Applied w e b o w′ b′ → T (soundWords w′)
+  unfolding soundWords
+  applied-sound {w′} {b′} t a =
+      let i = and-T (isBook w) (sound (venueOf w)) t in
+      let v : venueOf w′ ≡ step (venueOf w) e (length b) .venue = a .venue ∙ ap (λ (s : Step). s .venue) (step-in w e (length b) (i .0)) in
+      T-and (isBook w′) (sound (venueOf w′)) (a .layout (i .0)) (rw v (step-sound (venueOf w) e (length b) (i .1)))
+
+-- then the kind's own
+module _ {w b : List ℕ} (e : Event) (j : MayJudge w b) where
+  by-kind : refusalIn w e (length b) ≡ refusalOfKind (venueOf w) e
+  unfolding refusalIn
+  by-kind =
+      refuse-yes _ _ _ (T-true (soundWords w) (j .sound)) ∙ refuse-yes _ _ _ (le-leb leastBuffer (length b) (j .buffer)) ∙ refuse-yes _ _ _ (lt-ltb (venueOf w .acceptedEvents) mostEvents (j .events))
+
+  pub kind-refused : {k : ℕ} → refusalOfKind (venueOf w) e ≡ some k → Applied w e b (refuses k) w b
+  kind-refused {k} h = applied-refused w e b k (by-kind ∙ h)
+
+  module _ (h : refusalOfKind (venueOf w) e ≡ none) where
+    pub kind-allowed : Allowed (venueOf w) e
+    kind-allowed = not-refused w e (length b) (by-kind ∙ h) .allowed
+
+    pub kind-may-accept : MayAccept w
+    kind-may-accept = may-accept w e (length b) (by-kind ∙ h)
+
+    pub kind-has-room : Word (lastIdAfter (venueOf w) e) → Room b 0 (effectIn w e .reports)
+    kind-has-room i = reports-have-room w e (length b) (by-kind ∙ h) i b refl
+
+    pub kind-accepted : {w′ b′ : List ℕ} {end : ℕ} → Accepts w w′ b b′ e end → Applied w e b (gives end) w′ b′
+    kind-accepted a = applied-accepted (by-kind ∙ h) a

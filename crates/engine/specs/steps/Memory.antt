@@ -30,6 +30,12 @@ refusalIn w e n =
     (refuseUnless (ltb (venueOf w .acceptedEvents) mostEvents) 2
     (refusalOfKind (venueOf w) e)))
 
+-- words and a report buffer for which 16, 1 and 2 aren't given, so that only the refusals of the kind are left
+pub record MayJudge (w b : List ℕ) : Type 0 where
+  pub sound : T (soundWords w)
+  pub buffer : leastBuffer ≤ length b
+  pub events : venueOf w .acceptedEvents < mostEvents
+
 -- words that are a book whose ids rise: what every step of the engine needs, and leaves
 pub record Ordered (w : List ℕ) : Type 0 where
   pub book : Book w
