@@ -9,12 +9,14 @@ use lib.Dec.{leb}
 use lib.ListN.{length, getD, take, set, length-set}
 use lib.Seq.{take-suc-set, take-all}
 use borrow.Author.Tests.{le-leb, lt-leb}
-use Rattle.numbers.specs.Tests.{pick}
+use Rattle.numbers.specs.Tests.{pick, All}
 use Rattle.numbers.specs.Answers.{Outcome, gives, refuses, Read}
-use Rattle.numbers.specs.SevenBit.{numberAt}
+use Rattle.numbers.specs.SevenBit.{IsByte, numberAt}
 use Rattle.numbers.proofs.ReadLaws.{number}
-use Rattle.engine.specs.rules.Records.{highestField, onField, byField, fieldsAt}
-use Rattle.engine.proofs.bytes.RecordLaws.{fields, given, not-given}
+use Rattle.engine.specs.declared.Event.{Event}
+use Rattle.engine.specs.rules.Records.{recordNumbers, highestField, onField, byField, fieldsAt, recordAt}
+use Rattle.engine.specs.claims.RoundTrips.{Word}
+use Rattle.engine.proofs.bytes.RecordLaws.{fields, given, not-given, record-unique}
 
 -- a field by its number
 
@@ -107,3 +109,12 @@ module _ {bytes xs : List ℕ} {at n i end : ℕ} (h : FieldsSoFar bytes at n xs
   all-so-far l =
       let z : n - i ≡ 0 = omega arith in
       h .rest ∙ ap (λ j. inFront (take i xs) (fieldsAt j bytes end)) z ∙ in-front-all (take i xs) end ∙ ap (λ l. fields l end) (take-all i xs (omega (arith, h .long)))
+
+-- the fields of an event that was read are 32-bit numbers
+
+bytes-all : (bytes : List ℕ) → ((i : ℕ) → IsByte (getD bytes i 0)) → All IsByte bytes
+bytes-all [] h = tt
+bytes-all (b ∷ bs) h = (h 0, bytes-all bs (λ i. h (suc i)))
+
+pub read-words : (bytes : List ℕ) (at : ℕ) {r : Read Event} → ((i : ℕ) → IsByte (getD bytes i 0)) → recordAt bytes at ≡ gives r → All Word (recordNumbers (r .value))
+read-words bytes at {r} h e = record-unique bytes at r (bytes-all bytes h) e .words

@@ -38,7 +38,7 @@ use Rattle.engine.proofs.demand3.Demand3Law.{demand3}
 -- one call
 
 -- what is known of an answer with n bytes of buffer
-abbrev Readable : ℕ → Outcome (List Report) → Type 0
+abbrev pub Readable : ℕ → Outcome (List Report) → Type 0
 Readable n (gives rs) = All ReportWords rs × (length (reportsBytes rs) ≤ n)
 Readable n (refuses k) = Unit {0}
 
@@ -48,7 +48,7 @@ module _ (v : Venue) (e : Event) (n : ℕ) (i : Word (lastIdAfter v e)) where
   unless-readable nothing h = (reports-words v e n h i, omega (arith, reports-room v e n h i, h .buffer))
   unless-readable (some k) h = tt
 
-  step-readable : Readable n ((step v e n) .answer)
+  pub step-readable : Readable n ((step v e n) .answer)
   unfolding step
   step-readable = unless-readable (refusal v e n) (refusal-known v e n)
 
@@ -139,9 +139,24 @@ refusal-same : (v : Venue) (e : Event) (m n : ℕ) → leastBuffer ≤ m → lea
 unfolding refusal
 refusal-same v e m n h k = rw (le-leb leastBuffer m h, le-leb leastBuffer n k)
 
-step-same : (v : Venue) (e : Event) (m n : ℕ) → leastBuffer ≤ m → leastBuffer ≤ n → step v e m ≡ step v e n
+pub step-same : (v : Venue) (e : Event) (m n : ℕ) → leastBuffer ≤ m → leastBuffer ≤ n → step v e m ≡ step v e n
 unfolding step
 step-same v e m n h k = rw (refusal-same v e m n h k)
+
+-- a call on words laid out as a venue is the same with any other buffer that is long enough
+pub applied-elsewhere : {w w′ b b′ : List ℕ} {e : Event} {answer : Outcome ℕ} → T (isBook w) → leastBuffer ≤ length b → Applied w e b answer w′ b′ → (c : List ℕ) → leastBuffer ≤ length c → let x : Outcome (List Report) = step (venueOf w) e leastBuffer .answer in Applied w e c (countOf x) w′ (bufferAfter c x)
+applied-elsewhere {w} {w′} {b} {b′} {e} t l a c m =
+    let s : Step = step (venueOf w) e leastBuffer in
+    let f : stepIn w e (length b) ≡ s = step-in w e (length b) t ∙ step-same (venueOf w) e (length b) leastBuffer l (omega arith) in
+    let g : stepIn w e (length c) ≡ s = step-in w e (length c) t ∙ step-same (venueOf w) e (length c) leastBuffer m (omega arith) in
+    record {
+      answers = ap (λ (z : Step). countOf (z .answer)) (sym g);
+      buffer = ap (λ (z : Step). bufferAfter c (z .answer)) (sym g);
+      venue = a .venue ∙ ap (λ (z : Step). z .venue) (f ∙ sym g);
+      layout = a .layout;
+      same = a .same;
+      refused = λ n x. a .refused n (a .answers ∙ ap (λ (z : Step). countOf (z .answer)) f ∙ x);
+    }
 
 got-bytes : (a b : List ℕ) (x : Outcome (List Report)) → bytesGot (bufferAfter a x) (countOf x) ≡ bytesGot (bufferAfter b x) (countOf x)
 unfolding overwrite

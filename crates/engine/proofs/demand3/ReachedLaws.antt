@@ -1,7 +1,7 @@
 -- What holds of every venue reached from open: its conditions, so that no event is refused with 16. Assumes nothing.
-use Prim.Native.Nat.{ℕ}
+use Prim.Native.Nat.{ℕ, _<_}
 use native.Mathlib.Omega.{arith}
-use mathlib.Core.Path.{_≡_}
+use mathlib.Core.Path.{_≡_, refl, subst}
 use mathlib.Core.Bool.{Bool, true, false, not}
 use mathlib.Core.Option.{Option, none, some}
 use mathlib.Core.List.{List, [], _∷_}
@@ -50,39 +50,45 @@ opened-sound close t =
 pub reached-sound : (close : ℕ) (v : Venue) → opening close ≡ gives v → (cs : List Call) → SoundVenue ((run v cs) .venue)
 reached-sound close v e cs = let o = opening-known close v e in rw (o .fresh) (run-sound cs (opened close) (opened-sound close (o .legal)))
 
--- refusal 16 is given only where a condition is broken
+-- refusal 16 is given only where a condition is broken; every other is a number of one byte
 
-abbrev Not16 : Option ℕ → Type 0
-Not16 none = Unit {0}
-Not16 (some n) = n ≡ 16 → ⊥
+abbrev pub Not16 : ℕ → Type 0
+Not16 n = (n ≡ 16 → ⊥) × (n < 128)
 
-refuseUnless-not : (b : Bool) (n : ℕ) (later : Option ℕ) → (T (not b) → n ≡ 16 → ⊥) → Not16 later → Not16 (refuseUnless b n later)
+abbrev Refused : Option ℕ → Type 0
+Refused none = Unit {0}
+Refused (some n) = Not16 n
+
+refuseUnless-not : (b : Bool) (n : ℕ) (later : Option ℕ) → (T (not b) → Not16 n) → Refused later → Refused (refuseUnless b n later)
 unfolding refuseUnless
 refuseUnless-not true n later h k = k
 refuseUnless-not false n later h k = h tt
 
-refusalOfKind-not : (v : Venue) (e : Event) → Not16 (refusalOfKind v e)
+refusalOfKind-not : (v : Venue) (e : Event) → Refused (refusalOfKind v e)
 unfolding refusalOfKind
 refusalOfKind-not v (entry e) =
-    refuseUnless-not _ _ _ (λ t z. omega arith) (refuseUnless-not _ _ _ (λ t z. omega arith) (refuseUnless-not _ _ _ (λ t z. omega arith) (refuseUnless-not _ _ _ (λ t z. omega arith) (refuseUnless-not _ _ _ (λ t z. omega arith) (refuseUnless-not _ _ none (λ t z. omega arith) tt)))))
-refusalOfKind-not v (cancel i) = refuseUnless-not _ _ none (λ t z. omega arith) tt
-refusalOfKind-not v (bid b) = refuseUnless-not _ _ none (λ t z. omega arith) tt
-refusalOfKind-not v (tape p) = refuseUnless-not _ _ none (λ t z. omega arith) tt
-refusalOfKind-not v (dayEnd c) = refuseUnless-not _ _ none (λ t z. omega arith) tt
+    refuseUnless-not _ _ _ (λ t. (λ z. omega arith, omega arith)) (refuseUnless-not _ _ _ (λ t. (λ z. omega arith, omega arith)) (refuseUnless-not _ _ _ (λ t. (λ z. omega arith, omega arith)) (refuseUnless-not _ _ _ (λ t. (λ z. omega arith, omega arith)) (refuseUnless-not _ _ _ (λ t. (λ z. omega arith, omega arith)) (refuseUnless-not _ _ none (λ t. (λ z. omega arith, omega arith)) tt)))))
+refusalOfKind-not v (cancel i) = refuseUnless-not _ _ none (λ t. (λ z. omega arith, omega arith)) tt
+refusalOfKind-not v (bid b) = refuseUnless-not _ _ none (λ t. (λ z. omega arith, omega arith)) tt
+refusalOfKind-not v (tape p) = refuseUnless-not _ _ none (λ t. (λ z. omega arith, omega arith)) tt
+refusalOfKind-not v (dayEnd c) = refuseUnless-not _ _ none (λ t. (λ z. omega arith, omega arith)) tt
 
-refusal-not : (v : Venue) (e : Event) (n : ℕ) → T (sound v) → Not16 (refusal v e n)
+refusal-not : (v : Venue) (e : Event) (n : ℕ) → T (sound v) → Refused (refusal v e n)
 unfolding refusal
 refusal-not v e n s =
-    refuseUnless-not _ _ _ (λ t z. T-not (sound v) t s) (refuseUnless-not _ _ _ (λ t z. omega arith) (refuseUnless-not _ _ _ (λ t z. omega arith) (refusalOfKind-not v e)))
+    refuseUnless-not _ _ _ (λ t. absurd (T-not (sound v) t s)) (refuseUnless-not _ _ _ (λ t. (λ z. omega arith, omega arith)) (refuseUnless-not _ _ _ (λ t. (λ z. omega arith, omega arith)) (refusalOfKind-not v e)))
 
-answer-not : (x : Option ℕ) (v : Venue) (e : Event) → Not16 x → (stepUnless x v e) .answer ≡ refuses 16 → ⊥
+answer-not : (x : Option ℕ) (v : Venue) (e : Event) (n : ℕ) → Refused x → (stepUnless x v e) .answer ≡ refuses n → Not16 n
 unfolding stepUnless
-answer-not none v e h z = let y : _≡_ {A = ℕ} 0 1 = cc in omega arith
-answer-not (some n) v e h z = h (cc)
+answer-not none v e n h z = let y : _≡_ {A = ℕ} 0 1 = cc in absurd (omega arith)
+answer-not (some k) v e n h z = let y : k ≡ n = cc in subst Not16 y h
+
+pub sound-refused : (v : Venue) (e : Event) (buffer n : ℕ) → T (sound v) → step v e buffer .answer ≡ refuses n → Not16 n
+unfolding step
+sound-refused v e buffer n s = answer-not _ v e n (refusal-not v e buffer s)
 
 pub reached-is-sound : ReachedIsSound
-unfolding step
-reached-is-sound close v o cs e buffer = answer-not _ _ e (refusal-not _ e buffer (venue-sound _ (reached-sound close v o cs)))
+reached-is-sound close v o cs e buffer z = sound-refused _ e buffer 16 (venue-sound _ (reached-sound close v o cs)) z .0 refl
 
 pub stamps-bounded : StampsBounded
 stamps-bounded close v o cs = reached-sound close v o cs .stamps

@@ -12,13 +12,11 @@ use lib.Seq.{length-take-le, take-suc, drop-cons, append-snoc, set-at}
 use borrow.Author.Tests.{le-leb, lt-leb}
 use Rattle.numbers.specs.Tests.{pick, All}
 use Rattle.numbers.specs.Answers.{Outcome, gives, refuses, Read}
-use Rattle.numbers.specs.SevenBit.{IsByte}
 use Rattle.numbers.proofs.TestLaws.{by-test, tests}
 use Rattle.prices.specs.Prices.{legal}
 use Rattle.book.specs.rules.Words.{venueWords, isBook}
 use Rattle.engine.specs.declared.Event.{Event}
 use Rattle.engine.specs.declared.Refusal.{Refusal}
-use Rattle.engine.specs.declared.Refusal.the-variants.{BufferTooShort, EventsSpent, PriceNotLegal, SharesOutOfRange, CodeOutOfRange, IdNotNew, BookFull, NotResting, VenueBroken}
 use Rattle.records.specs.declared.ReadRefusal.{ReadRefusal}
 use Rattle.records.specs.declared.ReadRefusal.the-variants.{MissingByte, BadNumber, UnknownKind, FieldTooLarge}
 use Rattle.engine.specs.declared.Answer.{Answer}
@@ -38,24 +36,12 @@ use Rattle.engine.specs.claims.Calls.{Opens, Applied}
 use Rattle.host.specs.rules.Host.{hostAnswer, outcomeOf, openCount, hostOpening, wordsOpened}
 use Rattle.host.specs.claims.Calls.{HostOpened, AnswerFits, AnswerTold, EventApplied, HostApplied}
 use Rattle.engine.proofs.refinement.OpeningLaws.{fresh-length, opened-book-with, opened-venue-with}
+use Rattle.engine.proofs.refinement.AnswerLaws.{refusal-range}
 use Rattle.engine.proofs.refinement.ApplyLaws.{step-by-refusal, not-refused}
 use Rattle.engine.proofs.bytes.BoundLaws.{reports-room}
-use Rattle.engine.proofs.bytes.RecordLaws.{record-unique}
 use Rattle.engine.proofs.demand3.CallLaws.{event-lastId}
 
--- refusals are from 1 on, and few enough for a number of 32 bits
-
-pub refusal-range : (r : Refusal) → (1 ≤ refusalNumber r) × (refusalNumber r < 65_536)
-refusal-range BufferTooShort = (omega arith, omega arith)
-refusal-range EventsSpent = (omega arith, omega arith)
-refusal-range PriceNotLegal = (omega arith, omega arith)
-refusal-range SharesOutOfRange = (omega arith, omega arith)
-refusal-range CodeOutOfRange = (omega arith, omega arith)
-refusal-range IdNotNew = (omega arith, omega arith)
-refusal-range BookFull = (omega arith, omega arith)
-refusal-range NotResting = (omega arith, omega arith)
-refusal-range VenueBroken = (omega arith, omega arith)
-
+-- numbers of the refusals of reading
 pub read-refusal-range : (r : ReadRefusal) → (9 ≤ readRefusalNumber r) × (readRefusalNumber r ≤ 12)
 read-refusal-range MissingByte = (omega arith, omega arith)
 read-refusal-range BadNumber = (omega arith, omega arith)
@@ -118,15 +104,6 @@ module _ (w : List ℕ) {close : ℕ} {words : List ℕ} {answer : OpenAnswer} (
       record { answers = rw (e, ← f); leaves = rw (e, ← f) (k ∙ rw (opens-length o, o .is)) }
 
 -- venue_apply
-
--- the fields of an event that was read are 32-bit numbers
-
-bytes-all : (bytes : List ℕ) → ((i : ℕ) → IsByte (getD bytes i 0)) → All IsByte bytes
-bytes-all [] h = tt
-bytes-all (b ∷ bs) h = (h 0, bytes-all bs (λ i. h (suc i)))
-
-pub read-words : (bytes : List ℕ) {r : Read Event} → ((i : ℕ) → IsByte (getD bytes i 0)) → recordAt bytes 0 ≡ gives r → All Word (recordNumbers (r .value))
-read-words bytes {r} h e = record-unique bytes 0 r (bytes-all bytes h) e .words
 
 -- the reports of an event fit 16,384 bytes, so its byte count does
 abbrev SmallCount : Outcome ℕ → Type 0

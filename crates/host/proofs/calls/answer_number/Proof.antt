@@ -2,13 +2,13 @@
 use Prim.Native.Nat.{ℕ}
 use native.Mathlib.Omega.{arith}
 use mathlib.Core.Path.{_∙_, ap, sym, subst}
+use Rattle.engine.proofs.refinement.AnswerLaws.{refusal-range}
 use borrow.Author.Needs.{needs}
 use Rattle.numbers.specs.Answers.{refuses}
 use Rattle.engine.specs.declared.Answer.{Answer}
 use Rattle.engine.specs.rules.Answers.{outcomeOfAnswer}
 use Rattle.host.specs.rules.Host.{hostAnswer}
 use Rattle.host.specs.claims.Calls.{AnswerFits}
-use Rattle.host.proofs.refinement.HostLaws.{refusal-range}
 use Rattle.host.proofs.calls.answer_number.Statement.{statement}
 use Rattle.host.proofs.calls.answer_number.Tie as tie
 

@@ -2,11 +2,12 @@
 use Prim.Native.Nat.{ℕ}
 use native.Mathlib.Omega.{arith}
 use mathlib.Core.Path.{sym, ap, _∙_}
+use Rattle.records.proofs.ReadingLaws.{read-words}
 use borrow.Author.Needs.{needs}
 use Rattle.numbers.specs.Answers.{refuses}
 use Rattle.records.specs.RecordAnswers.{outcomeOfRecordRead}
 use Rattle.host.specs.rules.Host.{hostAnswer}
-use Rattle.host.proofs.refinement.HostLaws.{read-refusal-range, read-words, apply-refused, apply-read}
+use Rattle.host.proofs.refinement.HostLaws.{read-refusal-range, apply-refused, apply-read}
 use Rattle.host.proofs.calls.venue_apply.Statement.{statement}
 use Rattle.host.proofs.calls.venue_apply.Tie as tie
 
@@ -28,7 +29,7 @@ enum-known-event c = search needs
 apply-event-requires : tie.Need-apply-event-requires
 apply-event-requires c κs =
     let r = c .before .before .before .before .before in
-    read-words (r .before .before .before .before .args .«record» .now) (λ i. omega (arith, r .before .before .shared-slice-known .given i)) (sym (r .read-record .ensures) ∙ ap outcomeOfRecordRead (c .before .before .before .event .given .1))
+    read-words (r .before .before .before .before .args .«record» .now) 0 (λ i. omega (arith, r .before .before .shared-slice-known .given i)) (sym (r .read-record .ensures) ∙ ap outcomeOfRecordRead (c .before .before .before .event .given .1))
 
 returns : tie.Need-returns
 returns c =

@@ -2,10 +2,11 @@
 use Prim.Native.Nat.{ℕ}
 use native.Mathlib.Omega.{arith}
 use mathlib.Core.Path.{ap}
+use Rattle.engine.proofs.refinement.AnswerLaws.{refusal-range}
 use borrow.Author.Needs.{needs}
 use Rattle.numbers.specs.Answers.{refuses}
 use Rattle.host.specs.rules.Host.{hostAnswer}
-use Rattle.host.proofs.refinement.HostLaws.{refusal-range, opens-length, open-short, open-refused, open-fresh}
+use Rattle.host.proofs.refinement.HostLaws.{opens-length, open-short, open-refused, open-fresh}
 use Rattle.host.proofs.calls.venue_open.Statement.{statement}
 use Rattle.host.proofs.calls.venue_open.Tie as tie
 

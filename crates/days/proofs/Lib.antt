@@ -1,0 +1,2 @@
+-- Laws of playing a day.
+pub mod DayLaws

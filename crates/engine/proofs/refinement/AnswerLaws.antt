@@ -1,0 +1,17 @@
+-- The numbers of the refusals: from 1 on, and each of one byte. Assumes nothing.
+use Prim.Native.Nat.{_≤_, _<_}
+use native.Mathlib.Omega.{arith}
+use Rattle.engine.specs.declared.Refusal.{Refusal}
+use Rattle.engine.specs.declared.Refusal.the-variants.{BufferTooShort, EventsSpent, PriceNotLegal, SharesOutOfRange, CodeOutOfRange, IdNotNew, BookFull, NotResting, VenueBroken}
+use Rattle.engine.specs.rules.Answers.{refusalNumber}
+
+pub refusal-range : (r : Refusal) → (1 ≤ refusalNumber r) × (refusalNumber r < 128)
+refusal-range BufferTooShort = (omega arith, omega arith)
+refusal-range EventsSpent = (omega arith, omega arith)
+refusal-range PriceNotLegal = (omega arith, omega arith)
+refusal-range SharesOutOfRange = (omega arith, omega arith)
+refusal-range CodeOutOfRange = (omega arith, omega arith)
+refusal-range IdNotNew = (omega arith, omega arith)
+refusal-range BookFull = (omega arith, omega arith)
+refusal-range NotResting = (omega arith, omega arith)
+refusal-range VenueBroken = (omega arith, omega arith)
