@@ -34,7 +34,7 @@ use Rattle.days.specs.declared.Played.{Played}
 use Rattle.days.specs.declared.Stop.{Stop}
 use Rattle.days.specs.declared.Stop.the-variants.{AllPlayed, EndsFull, ReportsFull, Unreadable, VenueBroken}
 use Rattle.days.specs.Days.{answerBytes, allPlayed, endsFull, reportsFull, Day, dayAfter, Stopped, stopped, playOn, dayStarts, played}
-use Rattle.days.specs.DayCalls.{outcomeOfStop, answerIn, Stepped, EventPlayed, PlayedThrough, none, more, EventsPlayed, DayPlayed}
+use Rattle.days.specs.DayCalls.{outcomeOfStop, answerIn, Stepped, EventPlayed, PlayedThrough, none, more, EventsPlayed, DayDone, DayPlayed}
 
 -- the buffer lent from an offset on
 
@@ -239,7 +239,25 @@ module _ {w₀ records b₀ es₀ w b es : List ℕ} {from at end k : ℕ} (p : 
   pub stops-unread : {x : Played} {r : ReadRefusal} → at < length records → k < length es → leastBuffer ≤ length b - end → recordAt records at ≡ refuses (readRefusalNumber r) → x ≡ record { events = k; at = at; end = end; stop = Unreadable r } → DayPlayed w₀ records from b₀ es₀ x w b es
   stops-unread l m s e = stops (one-more m ∙ play-unread (length es - (k + 1)) records (dayOf w b es at end k) l s e)
 
-pub not-played : (w records : List ℕ) (from : ℕ) (b es : List ℕ) {x : Played} → soundWords w ≡ false → x ≡ record { events = 0; at = from; end = 0; stop = VenueBroken } → DayPlayed w records from b es x w b es
-unfolding played pick
-not-played w records from b es {x} f q =
-    subst (λ (y : Played). DayPlayed w records from b es y w b es) (sym q) (record { stops = rw f; events = rw f; at = rw f; end = rw f; done = record { venue = rw f; buffer = rw f; ends = rw f; same = record { size = refl; spare = λ j h k. refl; behind = λ j h. refl }; refused = λ z. refl; sound = λ t. t; applied = λ t. absurd (subst T f t) } })
+-- words that are no sound venue record
+
+module _ (w records : List ℕ) (from : ℕ) (b es : List ℕ) (f : soundWords w ≡ false) where
+  pub broken-day : played w records from b es ≡ stopped (dayStarts w from b es) (refuses 16)
+  unfolding played pick
+  broken-day = rw f
+
+  pub broken-done : DayDone w records from b es w b es
+  broken-done =
+      record {
+        venue = rw broken-day;
+        buffer = rw broken-day;
+        ends = rw broken-day;
+        same = record { size = refl; spare = λ j h k. refl; behind = λ j h. refl };
+        refused = λ z. refl;
+        sound = λ t. t;
+        applied = λ t. absurd (subst T f t);
+      }
+
+  pub not-played : {x : Played} → x ≡ record { events = 0; at = from; end = 0; stop = VenueBroken } → DayPlayed w records from b es x w b es
+  not-played {x} q =
+      subst (λ (y : Played). DayPlayed w records from b es y w b es) (sym q) (record { stops = rw broken-day; events = rw broken-day; at = rw broken-day; end = rw broken-day; done = broken-done })

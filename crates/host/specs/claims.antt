@@ -1,3 +1,4 @@
 -- What is claimed of the calls for hosts.
 pub mod Calls
 pub mod HostCalls
+pub mod PlayCalls

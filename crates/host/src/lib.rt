@@ -1,3 +1,4 @@
-// Calls for host programs, over the four layers. include/venue.h declares them for C.
+// Calls for host programs, over the four layers, the records and the days. include/venue.h declares them for C.
 pub mod calls;
 pub mod observe;
+pub mod play;
