@@ -16,6 +16,8 @@ mod observe;
 mod program;
 mod rng;
 mod sessions;
+#[cfg(feature = "engine")]
+mod sides;
 mod streams;
 
 use std::io::{self, Read, Write};
