@@ -11,6 +11,7 @@ use crate::counts::{Counts, Lent};
 use crate::engine;
 use crate::model::{permitted_price, read_record, Event, RecordCheck, Report, Venue};
 use crate::observe::Observer;
+use crate::replay::Replay;
 use crate::rng::Rng;
 use crate::sessions::{self, Examiner, Fault};
 use crate::sides::Sides;
@@ -38,6 +39,7 @@ struct Pair {
     sides: Sides,
     lent: [Lent; 2],
     observer: Observer,
+    replay: Replay,
     rng: Rng,
 }
 
@@ -47,6 +49,7 @@ impl Pair {
             sides: Sides::new(),
             lent: [Lent::new(), Lent::new()],
             observer: Observer::new(),
+            replay: Replay::new(),
             rng: Rng::new(0),
         }
     }
@@ -112,6 +115,7 @@ impl Examiner for Pair {
     fn start(&mut self, seed: u64, session: &Session, counts: &mut Counts) -> Result<(), Fault> {
         self.rng = Rng::new(!seed);
         self.sides.start(&mut self.rng, session, counts)?;
+        self.replay.start(&self.sides);
         self.look(counts)
     }
 
@@ -124,6 +128,7 @@ impl Examiner for Pair {
             let read = read_record(step.record, 0);
             format!("{fault}\n  in {read:?}")
         })?;
+        self.replay.gather(step.record);
         if self.rng.one_in(EVENTS_A_LOOK) {
             self.look(counts)?;
         }
@@ -131,11 +136,13 @@ impl Examiner for Pair {
     }
 
     fn end(&mut self, counts: &mut Counts) -> Result<(), Fault> {
-        self.look(counts)
+        self.look(counts)?;
+        self.replay.run(&mut self.rng, counts)
     }
 
     fn recover(&mut self) {
         self.lent = [Lent::new(), Lent::new()];
         self.observer = Observer::new();
+        self.replay = Replay::new();
     }
 }

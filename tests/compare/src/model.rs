@@ -13,7 +13,9 @@ pub use form::{
     read_number, read_record, write_number, write_record, Entry, Event, Report, ReportWriter,
     LONGEST_NUMBER,
 };
-pub use play::{Progress, Stop};
+pub use play::Progress;
+#[cfg(feature = "engine")]
+pub use play::Stop;
 pub use prices::{
     is_legal, permitted_price, phase_after_day_end, phase_after_tape, watch_tape, Watch, DOLLAR,
     HIGHEST, HIGHEST_BID, STEP,
