@@ -5,7 +5,8 @@
 //! the record don't matter; open refuses a run that is too short with 16, before
 //! 3 for the close; a fresh venue is 0 in every place; later, places that the
 //! venue doesn't use may hold anything; words behind the venue keep their
-//! content; a side is a buy where it is 0, and depth refuses with 2^64 - 1.
+//! content; a side is a buy where it is 0, and depth refuses with 2^64 - 1. Play
+//! looks at the venue first, so there 16 comes before 9 to 12.
 
 use crate::counts::{Counts, Lent};
 use crate::engine;
