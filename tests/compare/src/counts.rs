@@ -1,5 +1,7 @@
 //! What a run counts, and the buffer that it lends.
 
+#[cfg(feature = "engine")]
+use crate::model::Stop;
 use crate::model::{Refusal, Report};
 use crate::rng::Rng;
 use crate::streams::{Kind, MOST_BUFFER};
@@ -60,6 +62,17 @@ struct HostCounts {
     large_depths: u64,
     watches: Answers,
     triggers: u64,
+    plays: PlayCounts,
+}
+
+/// Of plays of whole days and of pieces.
+#[cfg(feature = "engine")]
+#[derive(Default)]
+struct PlayCounts {
+    days: u64,
+    pieces: u64,
+    events: u64,
+    answers: [u64; 17],
 }
 
 impl Counts {
@@ -111,6 +124,40 @@ impl Counts {
         self.host.watches.add(answer);
         self.host.triggers += u64::from(triggers);
     }
+
+    pub fn day(&mut self) {
+        self.host.plays.days += 1;
+    }
+
+    pub fn piece(&mut self) {
+        self.host.plays.pieces += 1;
+    }
+
+    /// A call of play that played so many events, whether of a whole day or of
+    /// a piece.
+    pub fn play(&mut self, answer: Result<Stop, Refusal>, events: u64) {
+        let number = match answer {
+            Ok(stop) => stop as usize,
+            Err(refusal) => refusal as usize,
+        };
+        self.host.plays.answers[number] += 1;
+        self.host.plays.events += events;
+    }
+}
+
+#[cfg(feature = "engine")]
+impl fmt::Display for PlayCounts {
+    fn fmt(&self, f: &mut fmt::Formatter) -> fmt::Result {
+        let (days, pieces, events) = (self.days, self.pieces, self.events);
+        write!(
+            f,
+            "played days {days} pieces {pieces} events {events} answers:"
+        )?;
+        for number in [0, 1, 2, 9, 10, 11, 12, 16] {
+            write!(f, " {number}: {}", self.answers[number])?;
+        }
+        Ok(())
+    }
 }
 
 #[cfg(feature = "engine")]
@@ -132,7 +179,8 @@ impl fmt::Display for HostCounts {
             f,
             "watches {} triggers {triggers} {watches}",
             watches.accepted
-        )
+        )?;
+        writeln!(f, "{}", self.plays)
     }
 }
 

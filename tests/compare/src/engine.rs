@@ -1,6 +1,6 @@
 //! The proved engine behind its C functions, and the layout of its words.
 
-use crate::model::{Order, OrderRecord, Refusal, Venue, Watch, PLACES};
+use crate::model::{Order, OrderRecord, Progress, Refusal, Venue, Watch, PLACES};
 
 /// A number that include/venue.h defines, as build.rs passes it on.
 const fn number(digits: &str) -> usize {
@@ -38,6 +38,18 @@ extern "C" {
         reports: *mut u8,
         reports_len: usize,
     ) -> u32;
+    fn venue_play(
+        words: *mut u32,
+        words_len: usize,
+        records: *const u8,
+        records_len: usize,
+        from: u64,
+        reports: *mut u8,
+        reports_len: usize,
+        ends: *mut u64,
+        ends_len: usize,
+        progress: *mut Progress,
+    ) -> u32;
     fn venue_record_check(bytes: *const u8, len: usize) -> u64;
     fn venue_permitted_price(bid: u32) -> u32;
     fn venue_copy_out(
@@ -52,6 +64,8 @@ extern "C" {
 
 /// The header's `struct venue_order` has a word a field.
 const _: () = assert!(size_of::<OrderRecord>() == 4 * ORDER_WORDS && size_of::<Watch>() == 8);
+/// Its `struct venue_progress` has three numbers of 64 bits.
+const _: () = assert!(size_of::<Progress>() == 24);
 
 /// Makes the words a fresh venue. Answers as `apply`, with no reports.
 pub fn open(words: &mut [u32], close: u32) -> u32 {
@@ -71,6 +85,34 @@ pub fn apply(words: &mut [u32], record: &[u8], reports: &mut [u8]) -> u32 {
             record.len(),
             reports.as_mut_ptr(),
             reports.len(),
+        )
+    }
+}
+
+/// Plays the records from an offset on, and notes where the bytes of each event
+/// end. Answers why it stopped: 0 to 2, or refusal × 65,536.
+pub fn play(
+    words: &mut [u32],
+    records: &[u8],
+    from: u64,
+    reports: &mut [u8],
+    ends: &mut [u64],
+    progress: &mut Progress,
+) -> u32 {
+    // SAFETY: pointers and lengths are those of slices and of a record lent for
+    // the call.
+    unsafe {
+        venue_play(
+            words.as_mut_ptr(),
+            words.len(),
+            records.as_ptr(),
+            records.len(),
+            from,
+            reports.as_mut_ptr(),
+            reports.len(),
+            ends.as_mut_ptr(),
+            ends.len(),
+            progress,
         )
     }
 }

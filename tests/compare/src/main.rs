@@ -3,6 +3,8 @@
 
 mod account;
 mod bench;
+#[cfg(feature = "engine")]
+mod caller;
 mod check;
 #[cfg(feature = "engine")]
 mod compare;
@@ -14,8 +16,12 @@ mod model;
 #[cfg(feature = "engine")]
 mod observe;
 mod program;
+#[cfg(feature = "engine")]
+mod replay;
 mod rng;
 mod sessions;
+#[cfg(feature = "engine")]
+mod sides;
 mod streams;
 
 use std::io::{self, Read, Write};

@@ -4,6 +4,7 @@
 
 mod book;
 mod form;
+mod play;
 mod prices;
 mod venue;
 
@@ -12,6 +13,9 @@ pub use form::{
     read_number, read_record, write_number, write_record, Entry, Event, Report, ReportWriter,
     LONGEST_NUMBER,
 };
+pub use play::Progress;
+#[cfg(feature = "engine")]
+pub use play::Stop;
 pub use prices::{
     is_legal, permitted_price, phase_after_day_end, phase_after_tape, watch_tape, Watch, DOLLAR,
     HIGHEST, HIGHEST_BID, STEP,

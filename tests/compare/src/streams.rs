@@ -450,6 +450,11 @@ impl Trace {
         let ends = self.ends.iter();
         starts.zip(ends).map(|(at, &end)| &self.bytes[at..end])
     }
+
+    /// The records in one run of bytes.
+    pub fn bytes(&self) -> &[u8] {
+        &self.bytes
+    }
 }
 
 /// A sound stream that keeps about so many orders resting, with the restriction
