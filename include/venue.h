@@ -9,7 +9,7 @@
 extern "C" {
 #endif
 
-/* A run of words, bytes or order records is a pointer and a length, counted in words, bytes or records. Nobody else writes it during the call, and a run that the call
+/* A run of words, bytes, ends or order records is a pointer and a length, counted in words, bytes, ends or records. Nobody else writes it during the call, and a run that the call
    writes shares nothing with another. The pointer is never NULL, also where the length is 0. */
 
 /* The words of a venue. A longer run is a venue with further words behind it, which keep their content. Between the calls the words are the
@@ -62,6 +62,34 @@ uint32_t venue_open(uint32_t *words, size_t words_length, uint32_t close);
     8  no order rests under the id to cancel */
 uint32_t venue_apply(uint32_t *words, size_t words_length, const uint8_t *record, size_t record_length, uint8_t *reports,
                      size_t reports_length);
+
+/* How far venue_play came. */
+struct venue_progress {
+    uint64_t events; /* the events played in the call, as many ends were written */
+    uint64_t at;     /* the offset reached in the records: that of the next record */
+    uint64_t bytes;  /* the bytes written to the report buffer */
+};
+
+/* Why venue_play stopped, where its answer is no refusal. */
+#define VENUE_ALL_PLAYED 0   /* the offset is at or past the end of the records */
+#define VENUE_ENDS_FULL 1    /* no place is left in ends */
+#define VENUE_REPORTS_FULL 2 /* fewer than VENUE_REPORT_BYTES bytes are left for reports */
+
+/* Plays the event records of a run one after another, from an offset on, each as venue_apply does. The bytes of the events stand one after another
+   at the front of the report buffer: of an accepted event its reports, which may be none, of a refused one 00 n, n being its refusal, 2 to 8. No report
+   begins with 00. ends[i] is the offset behind the bytes of the i-th event of the call, so these stand from ends[i - 1], or from 0, up to ends[i].
+   The venue record is checked once, before all else:
+   16 * 65,536  the words aren't a venue. Nothing at all is changed, progress neither
+   Then the call goes on until one of these, looked for in this order before each record:
+   VENUE_ALL_PLAYED, VENUE_ENDS_FULL, VENUE_REPORTS_FULL
+    9 to 12 * 65,536  the record at the offset can't be read, as in venue_apply. No byte is written for it
+   and progress says how far it came. The host takes out what it got and calls again with from = progress.at; a record that broke off (9) may go on
+   with more bytes behind it. A day played in pieces gives what it gives in one. An offset past the end plays nothing.
+   Words behind the venue, bytes behind those written and ends behind the last event keep their content.
+   What to lend: the record check costs more than an event, so with room for one event in each call venue_play is no faster than venue_apply. With
+   1 MiB for reports and 65,536 ends the check no longer counts. With fewer than VENUE_REPORT_BYTES bytes or no place for an end nothing is played. */
+uint32_t venue_play(uint32_t *words, size_t words_length, const uint8_t *records, size_t records_length, uint64_t from, uint8_t *reports,
+                    size_t reports_length, uint64_t *ends, size_t ends_length, struct venue_progress *progress);
 
 /* The byte count of the event record that stands at the front of the bytes; bytes behind it don't matter.
    0 on refusal: 9 to 12, as above. */
