@@ -34,7 +34,7 @@ use Rattle.days.specs.declared.Played.{Played}
 use Rattle.days.specs.declared.Stop.{Stop}
 use Rattle.days.specs.declared.Stop.the-variants.{AllPlayed, EndsFull, ReportsFull, Unreadable, VenueBroken}
 use Rattle.days.specs.Days.{answerBytes, allPlayed, endsFull, reportsFull, Day, dayAfter, Stopped, stopped, playOn, dayStarts, played}
-use Rattle.days.specs.DayCalls.{outcomeOfStop, answerIn, Stepped, EventPlayed, PlayedThrough, none, more, EventsPlayed, DayDone, DayPlayed}
+use Rattle.days.specs.DayCalls.{outcomeOfStop, answerIn, Stepped, EventPlayed, Reads, none, more, Steps, still, then, EventsPlayed, DayDone, DayPlayed}
 
 -- the buffer lent from an offset on
 
@@ -166,9 +166,14 @@ unfolding dayAfter answerIn
 day-more w w′ b b′ es at end end′ k r p = rw (p .venue, p .wrote .leaves, p .wrote .ends)
 
 -- one event more behind those that were played
-one-more-through : {records w w₁ w′ : List ℕ} {from at : ℕ} {es : List Event} {r : Read Event} → PlayedThrough records from w es at w₁ → recordAt records at ≡ gives r → Stepped w₁ (r .value) w′ → PlayedThrough records from w (es ++ (r .value ∷ [])) (r .end) w′
-one-more-through none e s = more e s none
-one-more-through (more f u p) e s = more f u (one-more-through p e s)
+
+read-more : {records : List ℕ} {from at : ℕ} {es : List Event} {r : Read Event} → Reads records from es at → recordAt records at ≡ gives r → Reads records from (es ++ (r .value ∷ [])) (r .end)
+read-more none e = more e none
+read-more (more f p) e = more f (read-more p e)
+
+step-more : {w w₁ w′ : List ℕ} {es : List Event} {e : Event} → Steps w es w₁ → Stepped w₁ e w′ → Steps w (es ++ (e ∷ [])) w′
+step-more still s = then s still
+step-more (then u p) s = then u (step-more p s)
 
 -- the loop
 
@@ -198,7 +203,7 @@ playing-starts w records from b es t =
       places = refl;
       few = omega arith;
       remains = ap (λ (n : ℕ). playOn n records (dayStarts w from b es)) (omega arith);
-      applied = record { read = []; count = refl; through = none };
+      applied = record { read = []; count = refl; reads = none; steps = still };
     }
 
 module _ {w₀ records b₀ es₀ w b es : List ℕ} {from at end k : ℕ} (p : Playing w₀ records from b₀ es₀ w b es at end k) where
@@ -218,26 +223,29 @@ module _ {w₀ records b₀ es₀ w b es : List ℕ} {from at end k : ℕ} (p : 
         places = g ∙ p .places;
         few = omega (arith, g, m);
         remains = one-more m ∙ play-more (length es - (k + 1)) records (dayOf w b es at end k) l s e ∙ ap (playOn (length es - (k + 1)) records) (day-more w w′ b b′ es at end end′ k r q) ∙ ap (λ (n : ℕ). playOn (n - (k + 1)) records (dayOf w′ b′ (set es k end′) (r .end) end′ (k + 1))) (sym g);
-        applied = record { read = p .applied .read ++ (r .value ∷ []); count = omega (arith, length-append (p .applied .read) (r .value ∷ []), p .applied .count); through = one-more-through (p .applied .through) e (q .stepped) };
+        applied = record { read = p .applied .read ++ (r .value ∷ []); count = omega (arith, length-append (p .applied .read) (r .value ∷ []), p .applied .count); reads = read-more (p .applied .reads) e; steps = step-more (p .applied .steps) (q .stepped) };
       }
 
-  stops : {s : Stop} {x : Played} → playOn (length es₀) records (dayStarts w₀ from b₀ es₀) ≡ stopped (dayOf w b es at end k) (outcomeOfStop s) → x ≡ record { events = k; at = at; end = end; stop = s } → DayPlayed w₀ records from b₀ es₀ x w b es
+  never : _≡_ {A = ℕ} 0 1 → ⊥
+  never z = omega arith
+
+  stops : {s : Stop} {x : Played} → (s ≡ VenueBroken → ⊥) → playOn (length es₀) records (dayStarts w₀ from b₀ es₀) ≡ stopped (dayOf w b es at end k) (outcomeOfStop s) → x ≡ record { events = k; at = at; end = end; stop = s } → DayPlayed w₀ records from b₀ es₀ x w b es
   unfolding played
-  stops {s} {x} e q =
+  stops {s} {x} n e q =
       let f : played w₀ records from b₀ es₀ ≡ stopped (dayOf w b es at end k) (outcomeOfStop s) = pick-yes (soundWords w₀) _ _ (p .start) ∙ e in
-      subst (λ (y : Played). DayPlayed w₀ records from b₀ es₀ y w b es) (sym q) (record { stops = rw f; events = rw f; at = rw f; end = rw f; done = record { venue = rw f; buffer = rw f; ends = rw f; same = p .same; refused = λ z. absurd (subst T z (p .start)); sound = λ t. p .sound; applied = λ t. rw f (p .applied) } })
+      subst (λ (y : Played). DayPlayed w₀ records from b₀ es₀ y w b es) (sym q) (record { stops = rw f; events = rw f; at = rw f; end = rw f; broken = λ z. absurd (n z); done = record { venue = rw f; buffer = rw f; ends = rw f; same = p .same; refused = λ z. absurd (subst T z (p .start)); sound = λ t. p .sound; applied = λ t. rw f (p .applied) } })
 
   pub stops-end : {x : Played} → length records ≤ at → x ≡ record { events = k; at = at; end = end; stop = AllPlayed } → DayPlayed w₀ records from b₀ es₀ x w b es
-  stops-end l = stops (p .remains ∙ play-end (length es - k) records (dayOf w b es at end k) l)
+  stops-end l = stops (λ z. never (cc)) (p .remains ∙ play-end (length es - k) records (dayOf w b es at end k) l)
 
   pub stops-full : {x : Played} → at < length records → length es ≤ k → x ≡ record { events = k; at = at; end = end; stop = EndsFull } → DayPlayed w₀ records from b₀ es₀ x w b es
-  stops-full l m = stops (p .remains ∙ play-full (length es - k) records (dayOf w b es at end k) (omega (arith, m)) l)
+  stops-full l m = stops (λ z. never (cc)) (p .remains ∙ play-full (length es - k) records (dayOf w b es at end k) (omega (arith, m)) l)
 
   pub stops-short : {x : Played} → at < length records → k < length es → length b - end < leastBuffer → x ≡ record { events = k; at = at; end = end; stop = ReportsFull } → DayPlayed w₀ records from b₀ es₀ x w b es
-  stops-short l m s = stops (one-more m ∙ play-short (length es - (k + 1)) records (dayOf w b es at end k) l s)
+  stops-short l m s = stops (λ z. never (cc)) (one-more m ∙ play-short (length es - (k + 1)) records (dayOf w b es at end k) l s)
 
   pub stops-unread : {x : Played} {r : ReadRefusal} → at < length records → k < length es → leastBuffer ≤ length b - end → recordAt records at ≡ refuses (readRefusalNumber r) → x ≡ record { events = k; at = at; end = end; stop = Unreadable r } → DayPlayed w₀ records from b₀ es₀ x w b es
-  stops-unread l m s e = stops (one-more m ∙ play-unread (length es - (k + 1)) records (dayOf w b es at end k) l s e)
+  stops-unread l m s e = stops (λ z. never (cc)) (one-more m ∙ play-unread (length es - (k + 1)) records (dayOf w b es at end k) l s e)
 
 -- words that are no sound venue record
 
@@ -260,4 +268,4 @@ module _ (w records : List ℕ) (from : ℕ) (b es : List ℕ) (f : soundWords w
 
   pub not-played : {x : Played} → x ≡ record { events = 0; at = from; end = 0; stop = VenueBroken } → DayPlayed w records from b es x w b es
   not-played {x} q =
-      subst (λ (y : Played). DayPlayed w records from b es y w b es) (sym q) (record { stops = rw broken-day; events = rw broken-day; at = rw broken-day; end = rw broken-day; done = broken-done })
+      subst (λ (y : Played). DayPlayed w records from b es y w b es) (sym q) (record { stops = rw broken-day; events = rw broken-day; at = rw broken-day; end = rw broken-day; broken = λ z. f; done = broken-done })

@@ -54,16 +54,22 @@ pub record EventPlayed (w : List ℕ) (e : Event) (at : ℕ) (b : List ℕ) (end
 
 -- One call
 
--- the events es of the records from an offset up to another, each applied to the words that the one before it left, from the words w to w′
-pub data PlayedThrough (records : List ℕ) : ℕ → List ℕ → List Event → ℕ → List ℕ → Type 0 where
-  none : {at : ℕ} {w : List ℕ} → PlayedThrough records at w [] at w
-  more : {at at′ : ℕ} {w w₁ w′ : List ℕ} {r : Read Event} {es : List Event} → recordAt records at ≡ gives r → Stepped w (r .value) w₁ → PlayedThrough records (r .end) w₁ es at′ w′ → PlayedThrough records at w (r .value ∷ es) at′ w′
+-- the events es are those of the records from an offset up to another
+pub data Reads (records : List ℕ) : ℕ → List Event → ℕ → Type 0 where
+  none : {at : ℕ} → Reads records at [] at
+  more : {at at′ : ℕ} {r : Read Event} {es : List Event} → recordAt records at ≡ gives r → Reads records (r .end) es at′ → Reads records at (r .value ∷ es) at′
 
--- the same of as many events as were played
+-- from the words w to the words w′ by the events es, each on the words that the one before it left
+pub data Steps : List ℕ → List Event → List ℕ → Type 0 where
+  still : {w : List ℕ} → Steps w [] w
+  then : {w w₁ w′ : List ℕ} {e : Event} {es : List Event} → Stepped w e w₁ → Steps w₁ es w′ → Steps w (e ∷ es) w′
+
+-- as many events as were played, read from the records and applied to the words
 pub record EventsPlayed (w records : List ℕ) (from events at : ℕ) (w′ : List ℕ) : Type 0 where
   pub read : List Event
   pub count : length read ≡ events
-  pub through : PlayedThrough records from w read at w′
+  pub reads : Reads records from read at
+  pub steps : Steps w read w′
 
 -- the words w, the records and the offset, the report buffer b and the run es for ends lent to a call, and what it leaves of them
 pub record DayDone (w records : List ℕ) (from : ℕ) (b es w′ b′ es′ : List ℕ) : Type 0 where
@@ -81,4 +87,5 @@ pub record DayPlayed (w records : List ℕ) (from : ℕ) (b es : List ℕ) (r : 
   pub events : r.events ≡ (played w records from b es) .day .events
   pub at : r.at ≡ (played w records from b es) .day .at
   pub end : r.end ≡ (played w records from b es) .day .end
+  pub broken : r.stop ≡ VenueBroken → soundWords w ≡ false
   pub done : DayDone w records from b es w′ b′ es′

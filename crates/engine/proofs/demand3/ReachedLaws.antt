@@ -1,5 +1,5 @@
 -- What holds of every venue reached from open: its conditions, so that no event is refused with 16. Assumes nothing.
-use Prim.Native.Nat.{ℕ, _<_}
+use Prim.Native.Nat.{ℕ, _≤_, _<_}
 use native.Mathlib.Omega.{arith}
 use mathlib.Core.Path.{_≡_, refl, subst}
 use mathlib.Core.Bool.{Bool, true, false, not}
@@ -50,10 +50,10 @@ opened-sound close t =
 pub reached-sound : (close : ℕ) (v : Venue) → opening close ≡ gives v → (cs : List Call) → SoundVenue ((run v cs) .venue)
 reached-sound close v e cs = let o = opening-known close v e in rw (o .fresh) (run-sound cs (opened close) (opened-sound close (o .legal)))
 
--- refusal 16 is given only where a condition is broken; every other is a number of one byte
+-- refusal 16 is given only where a condition is broken; every other is a number from 1 on, of one byte
 
 abbrev pub Not16 : ℕ → Type 0
-Not16 n = (n ≡ 16 → ⊥) × (n < 128)
+Not16 n = (n ≡ 16 → ⊥) × (1 ≤ n) × (n < 128)
 
 abbrev Refused : Option ℕ → Type 0
 Refused none = Unit {0}
@@ -67,16 +67,16 @@ refuseUnless-not false n later h k = h tt
 refusalOfKind-not : (v : Venue) (e : Event) → Refused (refusalOfKind v e)
 unfolding refusalOfKind
 refusalOfKind-not v (entry e) =
-    refuseUnless-not _ _ _ (λ t. (λ z. omega arith, omega arith)) (refuseUnless-not _ _ _ (λ t. (λ z. omega arith, omega arith)) (refuseUnless-not _ _ _ (λ t. (λ z. omega arith, omega arith)) (refuseUnless-not _ _ _ (λ t. (λ z. omega arith, omega arith)) (refuseUnless-not _ _ _ (λ t. (λ z. omega arith, omega arith)) (refuseUnless-not _ _ none (λ t. (λ z. omega arith, omega arith)) tt)))))
-refusalOfKind-not v (cancel i) = refuseUnless-not _ _ none (λ t. (λ z. omega arith, omega arith)) tt
-refusalOfKind-not v (bid b) = refuseUnless-not _ _ none (λ t. (λ z. omega arith, omega arith)) tt
-refusalOfKind-not v (tape p) = refuseUnless-not _ _ none (λ t. (λ z. omega arith, omega arith)) tt
-refusalOfKind-not v (dayEnd c) = refuseUnless-not _ _ none (λ t. (λ z. omega arith, omega arith)) tt
+    refuseUnless-not _ _ _ (λ t. (λ z. omega arith, omega arith, omega arith)) (refuseUnless-not _ _ _ (λ t. (λ z. omega arith, omega arith, omega arith)) (refuseUnless-not _ _ _ (λ t. (λ z. omega arith, omega arith, omega arith)) (refuseUnless-not _ _ _ (λ t. (λ z. omega arith, omega arith, omega arith)) (refuseUnless-not _ _ _ (λ t. (λ z. omega arith, omega arith, omega arith)) (refuseUnless-not _ _ none (λ t. (λ z. omega arith, omega arith, omega arith)) tt)))))
+refusalOfKind-not v (cancel i) = refuseUnless-not _ _ none (λ t. (λ z. omega arith, omega arith, omega arith)) tt
+refusalOfKind-not v (bid b) = refuseUnless-not _ _ none (λ t. (λ z. omega arith, omega arith, omega arith)) tt
+refusalOfKind-not v (tape p) = refuseUnless-not _ _ none (λ t. (λ z. omega arith, omega arith, omega arith)) tt
+refusalOfKind-not v (dayEnd c) = refuseUnless-not _ _ none (λ t. (λ z. omega arith, omega arith, omega arith)) tt
 
 refusal-not : (v : Venue) (e : Event) (n : ℕ) → T (sound v) → Refused (refusal v e n)
 unfolding refusal
 refusal-not v e n s =
-    refuseUnless-not _ _ _ (λ t. absurd (T-not (sound v) t s)) (refuseUnless-not _ _ _ (λ t. (λ z. omega arith, omega arith)) (refuseUnless-not _ _ _ (λ t. (λ z. omega arith, omega arith)) (refusalOfKind-not v e)))
+    refuseUnless-not _ _ _ (λ t. absurd (T-not (sound v) t s)) (refuseUnless-not _ _ _ (λ t. (λ z. omega arith, omega arith, omega arith)) (refuseUnless-not _ _ _ (λ t. (λ z. omega arith, omega arith, omega arith)) (refusalOfKind-not v e)))
 
 answer-not : (x : Option ℕ) (v : Venue) (e : Event) (n : ℕ) → Refused x → (stepUnless x v e) .answer ≡ refuses n → Not16 n
 unfolding stepUnless
