@@ -1,4 +1,4 @@
-/* A host program in C: checks event records and asks for permitted prices.
+/* A host program in C: checks event records, asks for permitted prices and applies single events by venue_apply.
    Build and run, from the repository's root:
    rt staticlib host && cc -Wall -Wextra -Iinclude examples/host.c target/staticlib/libhost.a -o target/host && target/host */
 #include <inttypes.h>
@@ -15,8 +15,16 @@ static void price(const char *what, uint32_t bid)
     printf("permitted price, %s %" PRIu32 ": %" PRIu32 "\n", what, bid, venue_permitted_price(bid));
 }
 
+static void apply(const char *what, uint32_t *words, const uint8_t *record, size_t length)
+{
+    static uint8_t reports[VENUE_REPORT_BYTES];
+    uint32_t answer = venue_apply(words, VENUE_WORDS, record, length, reports, sizeof reports);
+    printf("apply, %s: refusal %" PRIu32 ", count %" PRIu32 "\n", what, venue_refusal(answer), venue_count(answer));
+}
+
 int main(void)
 {
+    static uint32_t words[VENUE_WORDS];
     /* bid 91,100; entry 1 2 90500 500 1 0 0 with two bytes behind it */
     static const uint8_t bid[] = {0x03, 0xDC, 0xC7, 0x05};
     static const uint8_t entry[] = {0x01, 0x01, 0x02, 0x84, 0xC3, 0x05, 0xF4, 0x03, 0x01, 0x00, 0x00, 0xFF, 0xFF};
@@ -37,5 +45,10 @@ int main(void)
     price("bid", 99999900);
     price("not a bid", 91150);
     price("not a bid", 100000000);
+    if (venue_open(words, VENUE_WORDS, 100000) != 0)
+        return 1;
+    apply("bid 91100", words, bid, sizeof bid);
+    apply("entry", words, entry, sizeof entry);
+    apply("entry again", words, entry, sizeof entry);
     return 0;
 }
