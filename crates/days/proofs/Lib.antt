@@ -1,2 +1,3 @@
 -- Laws of playing a day.
 pub mod DayLaws
+pub mod DayRunLaws

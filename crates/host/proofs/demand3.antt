@@ -1,2 +1,3 @@
 -- The theorems of chains of calls.
 pub mod HostCallLaws
+pub mod HostDayLaws

@@ -2,3 +2,4 @@
 pub mod Calls
 pub mod HostCalls
 pub mod PlayCalls
+pub mod HostDays

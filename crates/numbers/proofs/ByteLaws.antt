@@ -10,7 +10,8 @@ use lib.ListN.{length, getD, drop, length-append, drop-of-length-le}
 use lib.Seq.{drop-cons}
 use borrow.Author.Tests.{lt-ltb, le-ltb}
 use Rattle.numbers.specs.Tests.{pick, All}
-use Rattle.numbers.specs.SevenBit.{groups, bytesOf, bytesOfAll}
+use Rattle.numbers.specs.SevenBit.{IsByte, groups, bytesOf, bytesOfAll}
+use Rattle.numbers.proofs.TestLaws.{all-append}
 
 -- any count of groups that is enough gives the same bytes
 groups-enough : (m n x : ℕ) → x ≤ m → x ≤ n → groups m x ≡ groups n x
@@ -91,3 +92,18 @@ all-none xs i h = rw (drop-of-length-le xs {i = i} h)
 pub kind-size : (k : ℕ) (xs : List ℕ) → k < 128 → All (λ (x : ℕ). x < 2 ^ 32) xs → length (bytesOfAll (k ∷ xs)) ≤ 1 + 5 * length xs
 unfolding bytesOfAll
 kind-size k xs l h = simp length-append (omega (arith, length-last k l, numbers-size xs h))
+
+-- the bytes of numbers are bytes
+
+groups-bytes : (n x : ℕ) → x ≤ n → All IsByte (bytesOf x)
+groups-bytes zero x h = rw (bytes-last x (omega arith)) (omega (arith, h), tt)
+groups-bytes (suc n) x h =
+    elim (decLt x 128) [
+      | yes l ↦ rw (bytes-last x l) (omega (arith, l), tt)
+      | no l ↦ rw (bytes-more x (omega arith)) (omega arith, groups-bytes n (x / 128) (omega arith))
+    ]
+
+pub numbers-bytes : (xs : List ℕ) → All IsByte (bytesOfAll xs)
+unfolding bytesOfAll
+numbers-bytes [] = tt
+numbers-bytes (x ∷ xs) = all-append IsByte (bytesOf x) (bytesOfAll xs) (groups-bytes x x (omega arith)) (numbers-bytes xs)

@@ -12,7 +12,7 @@ use borrow.Author.Tests.{le-leb, lt-leb}
 use Rattle.numbers.specs.Tests.{pick, All}
 use Rattle.numbers.specs.Answers.{Outcome, gives, refuses, Read}
 use Rattle.numbers.specs.SevenBit.{IsByte, numberAt}
-use Rattle.numbers.proofs.ReadLaws.{number}
+use Rattle.numbers.proofs.ReadLaws.{number, all-bytes}
 use Rattle.engine.specs.declared.Event.{Event}
 use Rattle.engine.specs.rules.Records.{recordNumbers, highestField, onField, byField, fieldsAt, recordAt}
 use Rattle.engine.specs.claims.RoundTrips.{Word}
@@ -112,9 +112,5 @@ module _ {bytes xs : List ℕ} {at n i end : ℕ} (h : FieldsSoFar bytes at n xs
 
 -- the fields of an event that was read are 32-bit numbers
 
-bytes-all : (bytes : List ℕ) → ((i : ℕ) → IsByte (getD bytes i 0)) → All IsByte bytes
-bytes-all [] h = tt
-bytes-all (b ∷ bs) h = (h 0, bytes-all bs (λ i. h (suc i)))
-
 pub read-words : (bytes : List ℕ) (at : ℕ) {r : Read Event} → ((i : ℕ) → IsByte (getD bytes i 0)) → recordAt bytes at ≡ gives r → All Word (recordNumbers (r .value))
-read-words bytes at {r} h e = record-unique bytes at r (bytes-all bytes h) e .words
+read-words bytes at {r} h e = record-unique bytes at r (all-bytes bytes h) e .words

@@ -1,8 +1,10 @@
 -- What venue_play answers and leaves. Assumes nothing.
 use Prim.Native.Nat.{ℕ}
 use mathlib.Core.Path.{_≡_}
+use mathlib.Core.Bool.{false}
 use mathlib.Core.List.{List, [], _∷_}
 use Rattle.numbers.specs.Tests.{pick}
+use Rattle.numbers.specs.Answers.{refuses}
 use Rattle.engine.specs.rules.Layout.{soundWords}
 use Rattle.days.specs.Days.{Day, Stopped, played}
 use Rattle.days.specs.DayCalls.{DayDone}
@@ -13,8 +15,9 @@ abbrev pub progressOf : Day → List ℕ
 progressOf d = d.events ∷ d.at ∷ d.end ∷ []
 
 -- one call: the words w, the records and the offset, the report buffer b, the run es for ends and the three numbers p lent to it, the answer,
--- and what is left of them; 16 leaves the three numbers as they were
+-- and what is left of them; 16 leaves the three numbers as they were, and is given for no other reason
 pub record HostPlayed (w records : List ℕ) (from : ℕ) (b es p : List ℕ) (answer : ℕ) (w′ b′ es′ p′ : List ℕ) : Type 0 where
   pub answers : answer ≡ hostAnswer ((played w records from b es) .stop)
   pub progress : p′ ≡ pick (soundWords w) (progressOf ((played w records from b es) .day)) p
+  pub refused : answer ≡ hostAnswer (refuses 16) → soundWords w ≡ false
   pub done : DayDone w records from b es w′ b′ es′
