@@ -1,22 +1,25 @@
 -- A played day is the same events one by one; what it stops at; reading is the same each time. Assumes nothing.
-use Prim.Native.Nat.{ℕ, zero, suc, _+_, _-_, _≤_}
+use Prim.Native.Nat.{ℕ, zero, suc, _+_, _-_, _≤_, _<_}
 use native.Mathlib.Omega.{arith}
 use native.Mathlib.Numerals.{add-one}
 use mathlib.Core.Path.{_≡_, refl, sym, ap, subst, _∙_}
 use mathlib.Core.List.{List, [], _∷_, _++_, map, append-assoc}
-use lib.Dec.{T, leb, leb→le}
+use lib.Dec.{T, leb, leb→le, nleb→lt}
 use lib.ListN.{length, set, take, drop, length-append, length-drop}
 use lib.Seq.{sets, drop-drop, take-at, drop-at, length-take-le}
 use Rattle.numbers.specs.Answers.{Outcome, gives, refuses, Read}
-use Rattle.numbers.specs.SevenBit.{overwrite}
+use Rattle.numbers.specs.Tests.{All}
+use Rattle.numbers.specs.SevenBit.{IsByte, bytesOf, bytesOfAll, overwrite}
 use Rattle.numbers.proofs.TestLaws.{by-test}
+use Rattle.numbers.proofs.ByteLaws.{length-positive}
 use Rattle.numbers.proofs.WriteLaws.{put-none}
 use Rattle.engine.specs.declared.Event.{Event}
+use Rattle.engine.specs.declared.Event.the-variants.{Entry as entry, Cancel as cancel, Bid as bid, Tape as tape, DayEnd as dayEnd}
 use Rattle.engine.specs.rules.Refusals.{leastBuffer}
 use Rattle.engine.specs.rules.Venue.{Venue}
 use Rattle.engine.specs.rules.Run.{Step, step, Answered, Run, run}
-use Rattle.engine.specs.rules.Records.{recordAt}
-use Rattle.engine.proofs.bytes.RecordLaws.{given}
+use Rattle.engine.specs.rules.Records.{recordBytes, recordAt}
+use Rattle.engine.proofs.bytes.RecordLaws.{given, record-unique}
 use Rattle.days.specs.Days.{answerBytes, allPlayed, Day, dayAfter, Stopped, byRecord, playOn}
 use Rattle.days.specs.DayCalls.{Reads, none, more}
 use Rattle.days.specs.DayRuns.{callOf, answeredBytes, endsFrom, OneByOne, PlayedOneByOne}
@@ -98,26 +101,25 @@ run-then v (e ∷ es) fs =
     let g = run-then (s .venue) es fs in
     (ap (λ (l : List Answered). record { event = e; answer = s.answer } ∷ l) (g .0), g .1)
 
--- what playing stopped at, where it wasn't for want of room: the end of the records, or a record that can't be read
+-- what playing stopped at: the end of the records, want of room, or a record that can't be read
 
 abbrev pub StoppedAt : List ℕ → ℕ → Outcome ℕ → Type 0
-StoppedAt records at (gives k) = k ≡ allPlayed → length records ≤ at
-StoppedAt records at (refuses n) = recordAt records at ≡ refuses n
+StoppedAt records at (gives k) = (k ≤ 2) × (k ≡ allPlayed → length records ≤ at)
+StoppedAt records at (refuses n) = (at < length records) × (recordAt records at ≡ refuses n)
+
+abbrev Stops : List ℕ → Stopped → Type 0
+Stops records s = StoppedAt records (s .day .at) (s .stop)
 
 pub stopped-at : (n : ℕ) (records : List ℕ) (d : Day) → StoppedAt records ((playOn n records d) .day .at) ((playOn n records d) .stop)
 unfolding playOn
 stopped-at zero records d =
-    by-test (λ (s : Stopped). StoppedAt records (s .day .at) (s .stop)) (leb (length records) (d .at)) (λ t z. leb→le _ _ t) (λ t z. absurd (omega (arith, z)))
+    by-test (Stops records) (leb (length records) (d .at)) (λ t. (omega arith, λ z. leb→le _ _ t)) (λ t. (omega arith, λ z. absurd (omega (arith, z))))
 stopped-at (suc n) records d =
-    by-test
-    (λ (s : Stopped). StoppedAt records (s .day .at) (s .stop))
-    (leb (length records) (d .at))
-    (λ t z. leb→le _ _ t)
-    (λ t. by-test (λ (s : Stopped). StoppedAt records (s .day .at) (s .stop)) (leb leastBuffer (length (d .bytes) - d.end)) (λ u. by-record (λ r. stopped-at n records (dayAfter d r)) (recordAt records (d .at)) refl) (λ u z. absurd (omega (arith, z))))
+    by-test (Stops records) (leb (length records) (d .at)) (λ t. (omega arith, λ z. leb→le _ _ t)) (λ t. by-test (Stops records) (leb leastBuffer (length (d .bytes) - d.end)) (λ u. by-record (nleb→lt _ _ t) (λ r. stopped-at n records (dayAfter d r)) (recordAt records (d .at)) refl) (λ u. (omega arith, λ z. absurd (omega (arith, z)))))
   where
-    by-record : ((r : Read Event) → let s : Stopped = playOn n records (dayAfter d r) in StoppedAt records (s .day .at) (s .stop)) → (x : Outcome (Read Event)) → recordAt records (d .at) ≡ x → let s : Stopped = byRecord (playOn n records) d x in StoppedAt records (s .day .at) (s .stop)
-    by-record later (refuses m) e = e
-    by-record later (gives r) e = later r
+    by-record : d.at < length records → ((r : Read Event) → Stops records (playOn n records (dayAfter d r))) → (x : Outcome (Read Event)) → recordAt records (d .at) ≡ x → Stops records (byRecord (playOn n records) d x)
+    by-record l later (refuses m) e = (l, e)
+    by-record l later (gives r) e = later r
 
 -- reading
 
@@ -151,3 +153,20 @@ reads-all {records} {at} {a} {b} (more {r = r} {es = es} e p) (more {r = s} {es 
     let z : r ≡ s = same-read e f in
     let g = reads-all p (subst (λ (y : Read Event). Reads records (y .end) fs b) (sym z) q) k m in
     (ap (λ (y : List Event). r.value ∷ y) (g .0) ∙ ap (λ (y : Read Event). y.value ∷ fs) z, g .1)
+
+-- an event that is read takes a byte or more
+
+numbers-positive : (k : ℕ) (xs : List ℕ) → 1 ≤ length (bytesOfAll (k ∷ xs))
+unfolding bytesOfAll
+numbers-positive k xs = omega (arith, length-append (bytesOf k) (bytesOfAll xs), length-positive k)
+
+record-positive : (e : Event) → 1 ≤ length (recordBytes e)
+unfolding recordBytes
+record-positive (entry e) = numbers-positive 1 (e .id ∷ e .mark ∷ e .price ∷ e .shares ∷ e .show ∷ e .life ∷ e .slide ∷ [])
+record-positive (cancel i) = numbers-positive 2 (i ∷ [])
+record-positive (bid b) = numbers-positive 3 (b ∷ [])
+record-positive (tape p) = numbers-positive 4 (p ∷ [])
+record-positive (dayEnd c) = numbers-positive 5 (c ∷ [])
+
+pub read-inside : (records : List ℕ) (at : ℕ) (r : Read Event) → All IsByte records → recordAt records at ≡ gives r → at < length records
+read-inside records at r h e = let s = record-unique records at r h e .stands in omega (arith, s .ends, s .inside, record-positive (r .value))

@@ -7,11 +7,11 @@ use mathlib.Core.Logic.{_⊎_, inl, inr}
 use mathlib.Core.List.{List, [], _∷_, _++_, map, append-nil}
 use lib.Dec.{T, eqb}
 use lib.ListN.{length, getD, take, drop, length-replicate}
-use lib.Seq.{sets, take-append-seam}
+use lib.Seq.{sets, sets-eq, take-append-seam}
 use Rattle.numbers.specs.Tests.{pick, All}
 use Rattle.numbers.specs.Answers.{Outcome, gives, refuses, Read}
 use Rattle.numbers.specs.SevenBit.{IsByte, bytesOfAll, Stands, overwrite}
-use Rattle.numbers.proofs.TestLaws.{by-test, pick-yes, pick-no, T-true, T-false, ne→T, and-T}
+use Rattle.numbers.proofs.TestLaws.{pick-yes, T-false, ne→T, eq→T, and-T}
 use Rattle.numbers.proofs.ByteLaws.{bytes-last, numbers-bytes}
 use Rattle.numbers.proofs.PlaceLaws.{stands-first, stands-front, stands-behind}
 use Rattle.book.specs.rules.Words.{isBook}
@@ -21,24 +21,26 @@ use Rattle.engine.specs.rules.Venue.{Venue}
 use Rattle.engine.specs.rules.Sound.{sound}
 use Rattle.engine.specs.rules.Refusals.{leastBuffer}
 use Rattle.engine.specs.rules.Run.{Step, step, Answered, Run, run}
-use Rattle.engine.specs.rules.Records.{recordBytes, reportBytes, reportsBytes, recordAt}
+use Rattle.engine.specs.rules.Records.{recordNumbers, recordBytes, reportBytes, reportsBytes, recordAt}
 use Rattle.engine.specs.rules.Answers.{countOf, bufferAfter}
 use Rattle.engine.specs.rules.Layout.{venueOf, soundWords}
+use Rattle.engine.specs.claims.RoundTrips.{Word}
 use Rattle.engine.specs.claims.Calls.{Applied}
-use Rattle.engine.proofs.bytes.RecordLaws.{record-read-back, record-unique}
+use Rattle.engine.proofs.bytes.RecordLaws.{given, not-given, record-read-back, record-unique}
 use Rattle.engine.proofs.refinement.OpeningLaws.{step-in}
 use Rattle.engine.proofs.refinement.ApplyLaws.{applied-sound}
 use Rattle.engine.proofs.demand3.ReachedLaws.{step-sound, sound-refused}
 use Rattle.days.specs.Days.{answerBytes, Stopped, playOn, dayStarts, played}
 use Rattle.days.specs.DayCalls.{answerIn, Stepped, Reads, none as noneRead, more as moreRead, Steps, still, then}
 use Rattle.days.specs.DayRuns.{callOf, answeredBytes, endsFrom}
-use Rattle.days.proofs.DayLaws.{refusal-bytes}
-use Rattle.days.proofs.DayRunLaws.{played-one-by-one, run-then, reads-same}
+use Rattle.days.proofs.DayLaws.{broken-day, refusal-bytes}
+use Rattle.days.proofs.DayRunLaws.{played-one-by-one, run-then, StoppedAt, stopped-at, reads-then, reads-same, NoneAt, reads-all, read-inside}
 use Rattle.host.specs.rules.Host.{hostAnswer, endOrZero}
 use Rattle.host.specs.claims.Calls.{AnswerFits, EventApplied, HostApplied}
-use Rattle.host.specs.claims.HostCalls.{ApplyCall, ApplyChain, none, more}
-use Rattle.host.specs.claims.HostDays.{PlayCall, PlayedBy, told, ownBuffer, callTold, cut, callsTold, callsPlayed, HostCall, HostChain, oneByOne, DaysOneByOne}
-use Rattle.host.proofs.refinement.HostLaws.{event-applied}
+use Rattle.host.specs.claims.HostCalls.{ApplyCall, ApplyChain, none, more, appliedCall, eventCalls}
+use Rattle.host.specs.claims.HostDays.{PlayCall, PlayedBy, told, ownBuffer, callTold, cut, callsTold, callsPlayed, HostCall, apply, play, HostChain, none as noCalls, applied, played as day, oneByOne, DaysOneByOne, Demand3OfDays, NoDayGets16, EqualDayReports, Pieces, last, more as moreThen, piecesPlayed, PiecesAgree}
+use Rattle.host.proofs.refinement.HostLaws.{event-applied, apply-read}
+use Rattle.host.proofs.demand3.HostCallLaws.{demand3-of-hosts, no-host-gets-16, equal-host-reports}
 
 -- the bytes of an event tell its answer
 
@@ -99,3 +101,129 @@ told-calls {records} {at} h (moreRead {r = r} {es = es} e p) v t b behind from e
     let bytesAre : cut from (from + length new) b ≡ new = cut-stands (stands-front new rest s) in
     let later = told-calls h p ((step v (r .value) leastBuffer) .venue) (step-sound v (r .value) leastBuffer t) b behind (from + length new) end (stands-behind new rest s) in
     rw (next, recordIs, bytesAre, told-answer x (step-small v (r .value) t), later)
+
+-- the events are calls of venue_apply
+
+own-long : length ownBuffer ≡ leastBuffer
+own-long = length-replicate {A = ℕ} leastBuffer 0
+
+record-reads : (e : Event) → All Word (recordNumbers e) → recordAt (recordBytes e) 0 ≡ gives (record { value = e; end = length (recordBytes e) })
+record-reads e h =
+    record-read-back (recordBytes e) 0 _ (record { words = h; stands = subst (λ (l : List ℕ). Stands l 0 (recordBytes e) (length (recordBytes e))) (append-nil (recordBytes e)) (stands-first (recordBytes e) []) })
+
+link : {w w₁ w′ : List ℕ} {e : Event} {cs : List ApplyCall} → All Word (recordNumbers e) → (x : Outcome (List Report)) → Small x → length (answerBytes x) ≤ leastBuffer → Applied w e ownBuffer (countOf x) w₁ (bufferAfter ownBuffer x) → ApplyChain w₁ cs w′ → ApplyChain w (callTold (recordBytes e) (toldOf x) ∷ cs) w′
+unfolding recordBytes
+link {e = e} h (gives rs) k f a later = more (numbers-bytes (recordNumbers e)) (apply-read (recordBytes e) (record-reads e h) (event-applied (gives (length (reportsBytes rs))) f refl a)) later
+link {e = e} h (refuses n) k f a later = more (numbers-bytes (recordNumbers e)) (apply-read (recordBytes e) (record-reads e h) (event-applied (refuses n) (k n refl .0) refl a)) later
+
+sound-parts : (w : List ℕ) → T (soundWords w) → T (isBook w) × T (sound (venueOf w))
+unfolding soundWords
+sound-parts w t = and-T (isBook w) (sound (venueOf w)) t
+
+stepped-venue : {w w₁ : List ℕ} {e : Event} → T (soundWords w) → Stepped w e w₁ → venueOf w₁ ≡ (step (venueOf w) e leastBuffer) .venue
+stepped-venue {w} {w₁} {e} t s =
+    s .applies ownBuffer (omega (arith, own-long)) .venue ∙ ap (λ (z : Step). z .venue) (step-in w e (length ownBuffer) (sound-parts w t .0) ∙ ap (step (venueOf w) e) own-long)
+
+steps-sound : {w w′ : List ℕ} {es : List Event} → T (soundWords w) → Steps w es w′ → T (soundWords w′)
+steps-sound t still = t
+steps-sound t (then s p) = steps-sound (applied-sound t (s .applies ownBuffer (omega (arith, own-long)))) p
+
+steps-chain : {w w′ : List ℕ} {es : List Event} → T (soundWords w) → Steps w es w′ → ApplyChain w (map dayCall (answeredOf (venueOf w) es)) w′
+unfolding run answerIn
+steps-chain t still = none
+steps-chain {w} {w′} t (then {w₁ = w₁} {e = e} {es = es} s p) =
+    let a = s .applies ownBuffer (omega (arith, own-long)) in
+    let later : ApplyChain w₁ (map dayCall (answeredOf ((step (venueOf w) e leastBuffer) .venue) es)) w′ = subst (λ (v : Venue). ApplyChain w₁ (map dayCall (answeredOf v es)) w′) (stepped-venue t s) (steps-chain (applied-sound t a) p) in
+    link (s .words) ((step (venueOf w) e leastBuffer) .answer) (step-small (venueOf w) e (sound-parts w t .1)) (s .fits) a later
+
+steps-venue : {w w′ : List ℕ} {es : List Event} → T (soundWords w) → Steps w es w′ → venueOf w′ ≡ (run (venueOf w) (map callOf es)) .venue
+unfolding run
+steps-venue t still = refl
+steps-venue t (then {es = es} s p) =
+    steps-venue (applied-sound t (s .applies ownBuffer (omega (arith, own-long)))) p ∙ ap (λ (v : Venue). (run v (map callOf es)) .venue) (stepped-venue t s)
+
+-- one call of venue_play on sound words
+
+record DayTold (w : List ℕ) (c : PlayCall) (w′ : List ℕ) : Type 0 where
+  read : List Event
+  reads : Reads (c .records) (c .from) read (getD (c .progress) 1 0)
+  steps : Steps w read w′
+  calls : callsPlayed c ≡ map dayCall (answeredOf (venueOf w) read)
+
+ends-length : (at : ℕ) (xs : List Answered) → length (endsFrom at xs) ≡ length xs
+ends-length at [] = refl
+ends-length at (a ∷ xs) = ap suc (ends-length (at + length (answerBytes (a .answer))) xs)
+
+run-length : (v : Venue) (es : List Event) → length (answeredOf v es) ≡ length es
+unfolding run
+run-length v [] = refl
+run-length v (e ∷ es) = ap suc (run-length ((step v e leastBuffer) .venue) es)
+
+module _ {w w′ : List ℕ} {c : PlayCall} (t : T (soundWords w)) (p : PlayedBy w c w′) where
+  abbrev whole : Stopped
+  whole = playOn (length (c .places)) (c .records) (dayStarts w (c .from) (c .lent) (c .places))
+
+  is-whole : played w (c .records) (c .from) (c .lent) (c .places) ≡ whole
+  unfolding played
+  is-whole = pick-yes (soundWords w) _ _ t
+
+  progress-is : c.progress ≡ whole .day .events ∷ whole .day .at ∷ whole .day .end ∷ []
+  progress-is = p .is .progress ∙ pick-yes (soundWords w) _ _ t ∙ rw is-whole
+
+  answer-not-16 : eqb (c .answer) (hostAnswer (refuses 16)) ≡ false
+  answer-not-16 = T-false _ (ne→T (c .answer) (hostAnswer (refuses 16)) (λ z. subst T (p .is .refused z) t))
+
+  day-told : DayTold w c w′
+  unfolding callsPlayed pick overwrite
+  day-told =
+      let o = played-one-by-one (length (c .places)) (c .records) (dayStarts w (c .from) (c .lent) (c .places)) (omega arith) in
+      let a = rw is-whole at (p .is .done .applied t) in
+      let same = reads-same (a .reads) (o .reads) (omega (arith, a .count, o .count)) in
+      let xs : List Answered = answeredOf (venueOf w) (o .read) in
+      let bytes : c.after ≡ answeredBytes xs ++ drop (0 + length (answeredBytes xs)) (c .lent) = p .is .done .buffer ∙ rw is-whole (o .bytes) in
+      let room : 0 + length (endsFrom 0 xs) ≤ length (c .places) = omega (arith, ends-length 0 xs, run-length (venueOf w) (o .read), o .few) in
+      let ends : c.ends ≡ endsFrom 0 xs ++ drop (0 + length (endsFrom 0 xs)) (c .places) = p .is .done .ends ∙ rw is-whole (o .ends) ∙ sets-eq (endsFrom 0 xs) (c .places) 0 room in
+      let stands : Stands (c .after) 0 (answeredBytes xs) (length (answeredBytes xs)) = rw bytes (stands-first (answeredBytes xs) (drop (0 + length (answeredBytes xs)) (c .lent))) in
+      let count : whole .day .events ≡ length (o .read) = omega (arith, o .count) in
+      record {
+        read = o .read;
+        reads = rw progress-is (o .reads);
+        steps = subst (λ (es : List Event). Steps w es w′) (same .0) (a .steps);
+        calls = rw (answer-not-16, progress-is, count, ends) (told-calls (p .bytes) (o .reads) (venueOf w) (sound-parts w t .1) (c .after) _ 0 _ stands);
+      }
+
+-- words that are no venue: nothing is played
+day-refused : {w w′ : List ℕ} {c : PlayCall} → soundWords w ≡ false → PlayedBy w c w′ → (callsPlayed c ≡ []) × (w′ ≡ w)
+unfolding callsPlayed
+day-refused {w} {w′} {c} f p =
+    let z : c.answer ≡ hostAnswer (refuses 16) = p .is .answers ∙ ap (λ (s : Stopped). hostAnswer (s .stop)) (broken-day w (c .records) (c .from) (c .lent) (c .places) f) in
+    (pick-yes (eqb (c .answer) (hostAnswer (refuses 16))) _ _ (eq→T z), p .is .done .refused f)
+
+day-chain : {w w′ : List ℕ} {c : PlayCall} → PlayedBy w c w′ → ApplyChain w (callsPlayed c) w′
+day-chain {w} {w′} {c} p = go (soundWords w) refl
+  where
+    go : (x : Bool) → soundWords w ≡ x → ApplyChain w (callsPlayed c) w′
+    go true e = let t : T (soundWords w) = rw e tt in let d = day-told t p in rw (d .calls) (steps-chain t (d .steps))
+    go false e = let d = day-refused e p in rw (d .0, d .1) none
+
+-- the theorems
+
+chain-then : {w w₁ w′ : List ℕ} {cs ds : List ApplyCall} → ApplyChain w cs w₁ → ApplyChain w₁ ds w′ → ApplyChain w (cs ++ ds) w′
+chain-then none d = d
+chain-then (more h a r) d = more h a (chain-then r d)
+
+calls : {w w′ : List ℕ} {hs : List HostCall} → HostChain w hs w′ → ApplyChain w (oneByOne hs) w′
+unfolding oneByOne
+calls noCalls = none
+calls (applied h a r) = more h a (calls r)
+calls (day p r) = chain-then (day-chain p) (calls r)
+
+pub days-one-by-one : DaysOneByOne
+days-one-by-one w hs w′ c = calls c
+
+pub demand3-of-days : Demand3OfDays
+demand3-of-days w close w₀ h hs w′ c = demand3-of-hosts w close w₀ h (oneByOne hs) w′ (calls c)
+
+pub equal-day-reports : EqualDayReports
+equal-day-reports close w v w₀ v₀ h k hs gs w′ v′ c d =
+    equal-host-reports close w v w₀ v₀ h k (oneByOne hs) (oneByOne gs) w′ v′ (calls c) (calls d)
