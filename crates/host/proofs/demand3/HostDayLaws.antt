@@ -4,20 +4,20 @@ use native.Mathlib.Omega.{arith}
 use mathlib.Core.Path.{_≡_, refl, sym, ap, subst, _∙_}
 use mathlib.Core.Bool.{Bool, true, false}
 use mathlib.Core.Logic.{_⊎_, inl, inr}
-use mathlib.Core.List.{List, [], _∷_, _++_, map, append-nil}
+use mathlib.Core.List.{List, [], _∷_, _++_, map, map-append, append-nil}
 use lib.Dec.{T, eqb}
 use lib.ListN.{length, getD, take, drop, length-replicate}
 use lib.Seq.{sets, sets-eq, take-append-seam}
 use Rattle.numbers.specs.Tests.{pick, All}
 use Rattle.numbers.specs.Answers.{Outcome, gives, refuses, Read}
 use Rattle.numbers.specs.SevenBit.{IsByte, bytesOfAll, Stands, overwrite}
-use Rattle.numbers.proofs.TestLaws.{pick-yes, T-false, ne→T, eq→T, and-T}
+use Rattle.numbers.proofs.TestLaws.{pick-yes, T-false, ne→T, eq→T, and-T, T-and}
 use Rattle.numbers.proofs.ByteLaws.{bytes-last, numbers-bytes}
 use Rattle.numbers.proofs.PlaceLaws.{stands-first, stands-front, stands-behind}
 use Rattle.book.specs.rules.Words.{isBook}
 use Rattle.engine.specs.declared.Event.{Event}
 use Rattle.engine.specs.rules.Reports.{Report, accepted, executed, cancelled, repriced, restrictionStarts, dayEnded}
-use Rattle.engine.specs.rules.Venue.{Venue}
+use Rattle.engine.specs.rules.Venue.{Venue, opened}
 use Rattle.engine.specs.rules.Sound.{sound}
 use Rattle.engine.specs.rules.Refusals.{leastBuffer}
 use Rattle.engine.specs.rules.Run.{Step, step, Answered, Run, run}
@@ -27,19 +27,20 @@ use Rattle.engine.specs.rules.Layout.{venueOf, soundWords}
 use Rattle.engine.specs.claims.RoundTrips.{Word}
 use Rattle.engine.specs.claims.Calls.{Applied}
 use Rattle.engine.proofs.bytes.RecordLaws.{given, not-given, record-read-back, record-unique}
-use Rattle.engine.proofs.refinement.OpeningLaws.{step-in}
+use Rattle.engine.proofs.refinement.OpeningLaws.{opening-gives, step-in}
 use Rattle.engine.proofs.refinement.ApplyLaws.{applied-sound}
-use Rattle.engine.proofs.demand3.ReachedLaws.{step-sound, sound-refused}
-use Rattle.days.specs.Days.{answerBytes, Stopped, playOn, dayStarts, played}
+use Rattle.engine.proofs.demand3.ReachedLaws.{step-sound, reached-sound, sound-refused}
+use Rattle.engine.proofs.demand3.SoundLaws.{venue-sound}
+use Rattle.days.specs.Days.{allPlayed, answerBytes, Stopped, playOn, dayStarts, played}
 use Rattle.days.specs.DayCalls.{answerIn, Stepped, Reads, none as noneRead, more as moreRead, Steps, still, then}
 use Rattle.days.specs.DayRuns.{callOf, answeredBytes, endsFrom}
 use Rattle.days.proofs.DayLaws.{broken-day, refusal-bytes}
 use Rattle.days.proofs.DayRunLaws.{played-one-by-one, run-then, StoppedAt, stopped-at, reads-then, reads-same, NoneAt, reads-all, read-inside}
 use Rattle.host.specs.rules.Host.{hostAnswer, endOrZero}
-use Rattle.host.specs.claims.Calls.{AnswerFits, EventApplied, HostApplied}
+use Rattle.host.specs.claims.Calls.{HostOpened, RecordApplied}
 use Rattle.host.specs.claims.HostCalls.{ApplyCall, ApplyChain, none, more, appliedCall, eventCalls}
-use Rattle.host.specs.claims.HostDays.{PlayCall, PlayedBy, told, ownBuffer, callTold, cut, callsTold, callsPlayed, HostCall, apply, play, HostChain, none as noCalls, applied, played as day, oneByOne, DaysOneByOne, Demand3OfDays, NoDayGets16, EqualDayReports, Pieces, last, more as moreThen, piecesPlayed, PiecesAgree}
-use Rattle.host.proofs.refinement.HostLaws.{event-applied, apply-read}
+use Rattle.host.specs.claims.HostDays.{PlayCall, PlayedBy, told, ownBuffer, callTold, cut, callsTold, callsPlayed, HostCall, apply, play, answerOf, HostChain, none as noCalls, applied, played as day, oneByOne, DaysOneByOne, Demand3OfDays, NoDayGets16, EqualDayReports, Pieces, last, more as moreThen, piecesPlayed, PiecesAgree}
+use Rattle.host.proofs.refinement.HostLaws.{outcome-told, event-applied, apply-read, opened-fresh}
 use Rattle.host.proofs.demand3.HostCallLaws.{demand3-of-hosts, no-host-gets-16, equal-host-reports}
 
 -- the bytes of an event tell its answer
@@ -227,3 +228,113 @@ demand3-of-days w close w₀ h hs w′ c = demand3-of-hosts w close w₀ h (oneB
 pub equal-day-reports : EqualDayReports
 equal-day-reports close w v w₀ v₀ h k hs gs w′ v′ c d =
     equal-host-reports close w v w₀ v₀ h k (oneByOne hs) (oneByOne gs) w′ v′ (calls c) (calls d)
+
+-- no refusal 16
+
+same-refusal : {A : Type 0} {m n : ℕ} → _≡_ {A = Outcome A} (refuses m) (refuses n) → m ≡ n
+same-refusal z = cc
+
+counted : (x : Outcome (List Report)) → countOf x ≡ refuses 16 → x ≡ refuses 16
+counted (gives rs) y = absurd (not-given (sym y))
+counted (refuses n) y = ap refuses (same-refusal y)
+
+event-not-16 : {w w′ b b′ : List ℕ} {e : Event} {o : Outcome ℕ} → T (soundWords w) → Applied w e b o w′ b′ → o ≡ refuses 16 → ⊥
+event-not-16 {w} {b = b} {e = e} t a z =
+    let s = sound-parts w t in
+    sound-refused (venueOf w) e (length b) 16 (s .1) (counted _ (ap (λ (x : Step). countOf (x .answer)) (sym (step-in w e (length b) (s .0))) ∙ sym (a .answers) ∙ z)) .0 refl
+
+abbrev Not16 : HostCall → Type 0
+Not16 h = answerOf h ≡ hostAnswer (refuses 16) → ⊥
+
+not-16 : {w w′ : List ℕ} {hs : List HostCall} → T (soundWords w) → HostChain w hs w′ → All Not16 hs
+not-16 t noCalls = tt
+not-16 {w} t (applied {w₁ = w₁} {c = c} h a r) = let k = by-record (recordAt (c .bytes) 0) a in (k .0, not-16 (k .1) r)
+  where
+    by-record : (x : Outcome (Read Event)) → RecordApplied x w (c .lent) (c .answer) w₁ (c .after) → (c .answer ≡ hostAnswer (refuses 16) → ⊥) × T (soundWords w₁)
+    by-record (gives e) b = (λ z. event-not-16 t (b .applied) (outcome-told (refuses 16) (omega arith) z), applied-sound t (b .applied))
+    by-record (refuses n) b = (λ z. omega (arith, b .answers, b .range .1, z), rw (b .words) t)
+not-16 t (day p r) = (λ z. subst T (p .is .refused z) t, not-16 (p .is .done .sound t) r)
+
+opened-words-sound : {w w₀ : List ℕ} {close : ℕ} → HostOpened w close 0 w₀ → T (soundWords w₀)
+unfolding soundWords run
+opened-words-sound {w₀ = w₀} {close = close} h =
+    let f = opened-fresh h in
+    T-and (isBook w₀) (sound (venueOf w₀)) (f .layout) (rw (f .venue) (venue-sound (opened close) (reached-sound close (opened close) (opening-gives close (f .legal)) [])))
+
+pub no-day-gets-16 : NoDayGets16
+no-day-gets-16 w close w₀ h hs w′ c = not-16 (opened-words-sound h) c
+
+-- a day in pieces
+
+-- what the last piece stopped at
+record LastRefused (records : List ℕ) (at x : ℕ) : Type 0 where
+  number : ℕ
+  answer : x ≡ hostAnswer (refuses number)
+  inside : at < length records
+  is : recordAt records at ≡ refuses number
+
+abbrev LastAnswer : List ℕ → ℕ → ℕ → Type 0
+LastAnswer records at x = ((x ≡ allPlayed) × (length records ≤ at)) ⊎ LastRefused records at x
+
+last-answer : (records : List ℕ) (at x : ℕ) (s : Outcome ℕ) → StoppedAt records at s → x ≡ hostAnswer s → (x ≡ allPlayed) ⊎ (65_536 ≤ x) → LastAnswer records at x
+last-answer records at x (gives k) h e (inl z) = inl (z, h .1 (omega (arith, e, z)))
+last-answer records at x (gives k) h e (inr l) = absurd (omega (arith, e, l, h .0))
+last-answer records at x (refuses n) h e q = inr (record { number = n; answer = e; inside = h .0; is = h .1 })
+
+none-behind : (records : List ℕ) (at x : ℕ) → All IsByte records → LastAnswer records at x → NoneAt records at
+none-behind records at x h (inl z) r e = omega (arith, z .1, read-inside records at r h e)
+none-behind records at x h (inr z) r e = not-given (sym (z .is) ∙ e)
+
+same-answer : (records : List ℕ) (at x y : ℕ) → LastAnswer records at x → LastAnswer records at y → x ≡ y
+same-answer records at x y (inl p) (inl q) = omega (arith, p .0, q .0)
+same-answer records at x y (inl p) (inr q) = absurd (omega (arith, p .1, q .inside))
+same-answer records at x y (inr p) (inl q) = absurd (omega (arith, q .1, p .inside))
+same-answer records at x y (inr p) (inr q) =
+    let n : p .number ≡ q .number = same-refusal (sym (p .is) ∙ q .is) in
+    omega (arith, p .answer, q .answer, n)
+
+record PiecesTold (records w : List ℕ) (from : ℕ) (cs : List PlayCall) (w′ : List ℕ) (at x : ℕ) : Type 0 where
+  bytes : All IsByte records
+  read : List Event
+  reads : Reads records from read at
+  venue : venueOf w′ ≡ (run (venueOf w) (map callOf read)) .venue
+  calls : piecesPlayed cs ≡ map dayCall (answeredOf (venueOf w) read)
+  ends : LastAnswer records at x
+
+pieces-told : {records w w′ : List ℕ} {from at x : ℕ} {cs : List PlayCall} → T (soundWords w) → Pieces records w from cs w′ at x → PiecesTold records w from cs w′ at x
+unfolding piecesPlayed
+pieces-told {records} {w} {w′} {from} t (last {c = c} p r f q) =
+    let d = day-told t p in
+    record {
+      bytes = rw (sym r) (p .bytes);
+      read = d .read;
+      reads = rw (sym r, sym f) (d .reads);
+      venue = steps-venue t (d .steps);
+      calls = append-nil (callsPlayed c) ∙ d .calls;
+      ends = rw (sym r) (last-answer (c .records) _ (c .answer) ((whole t p) .stop) (rw (progress-is t p) (stopped-at (length (c .places)) (c .records) (dayStarts w (c .from) (c .lent) (c .places)))) (p .is .answers ∙ rw (is-whole t p)) q);
+    }
+pieces-told {records} {w} {w′} {from} {at} {x} t (moreThen {w₁ = w₁} {c = c} {cs = cs} p r f later) =
+    let d = day-told t p in
+    let e = pieces-told (p .is .done .sound t) later in
+    let v = steps-venue t (d .steps) in
+    let both = run-then (venueOf w) (d .read) (e .read) in
+    record {
+      bytes = e .bytes;
+      read = d .read ++ e .read;
+      reads = reads-then {es = d .read} (rw (sym r, sym f) (d .reads)) (e .reads);
+      venue = e .venue ∙ ap (λ (z : Venue). (run z (map callOf (e .read))) .venue) v ∙ sym (both .1);
+      calls = ap (λ (l : List ApplyCall). l ++ piecesPlayed cs) (d .calls) ∙ ap (λ (l : List ApplyCall). map dayCall (answeredOf (venueOf w) (d .read)) ++ l) (e .calls ∙ ap (λ (z : Venue). map dayCall (answeredOf z (e .read))) v) ∙ sym (map-append dayCall (answeredOf (venueOf w) (d .read)) (answeredOf ((run (venueOf w) (map callOf (d .read))) .venue) (e .read))) ∙ ap (map dayCall) (sym (both .0));
+      ends = e .ends;
+    }
+
+pub pieces-agree : PiecesAgree
+pieces-agree records w v from t u q cs ds w′ v′ a b x y c d =
+    let m = pieces-told t c in
+    let n = pieces-told u d in
+    let same = reads-all (m .reads) (n .reads) (none-behind records a x (m .bytes) (m .ends)) (none-behind records b y (n .bytes) (n .ends)) in
+    record {
+      events = m .calls ∙ ap (map dayCall) (ap (λ (z : Venue). answeredOf z (m .read)) q ∙ ap (answeredOf (venueOf v)) (same .0)) ∙ sym (n .calls);
+      venue = m .venue ∙ ap (λ (z : Venue). (run z (map callOf (m .read))) .venue) q ∙ ap (λ (es : List Event). (run (venueOf v) (map callOf es)) .venue) (same .0) ∙ sym (n .venue);
+      at = same .1;
+      answer = same-answer records b x y (subst (λ (z : ℕ). LastAnswer records z x) (same .1) (m .ends)) (n .ends);
+    }
