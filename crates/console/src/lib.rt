@@ -2,14 +2,12 @@
 // document 01, "Program `venue`". What is printed is gathered in a buffer and written in large pieces.
 mod line;
 
-use engine::Answer;
-use engine::Event;
+use days::Stop;
+use days::play;
 use engine::OpenAnswer;
-use engine::apply;
 use engine::open;
 use engine::refusals;
 use records::FieldRead;
-use records::RecordRead;
 use records::record;
 
 // Plays one input.
@@ -43,36 +41,28 @@ fn play_day(input: &[u8], from: usize, close: u32, out: &mut [u8]) -> usize {
 
 // "9 to 12 .. end it. An input that ends right after the close or after a record prints nothing for that end"
 fn play_records(words: &mut [u32], input: &[u8], from: usize, out: &mut [u8]) -> usize {
-    let mut space = [0u8; 16384];
+    let mut space = [0u8; 65536];
     let reports: &mut [u8] = &mut space;
+    let mut places = [0u64; 4096];
+    let ends: &mut [u64] = &mut places;
     let mut next = from;
     let mut at = 0;
     while next < input.len() {
-        match record::read_record(input, next) {
-            RecordRead::Refused(refusal) => {
-                return line::put_refusal(out, at, record::refusal_number(refusal));
-            }
-            RecordRead::Record { event, end } => {
-                at = play_event(words, event, reports, out, at);
-                if end <= next {
-                    return at;
-                }
-                next = end;
-            }
+        let played = play::play(words, input, next, reports, ends);
+        at = line::put_reports(out, at, reports, played.end);
+        if played.at <= next {
+            let stop = played.stop;
+            return put_stop(out, at, stop);
         }
+        next = played.at;
     }
     at
 }
 
-fn play_event(
-    words: &mut [u32],
-    event: Event,
-    reports: &mut [u8],
-    out: &mut [u8],
-    at: usize,
-) -> usize {
-    match apply::apply(words, event, reports) {
-        Answer::Refused(refusal) => line::put_refusal(out, at, refusals::number_of(refusal)),
-        Answer::Accepted(count) => line::put_reports(out, at, reports, count),
+// The line of a record that can't be read. There is room for an event, so nothing else stops one from being played.
+fn put_stop(out: &mut [u8], at: usize, stop: Stop) -> usize {
+    if let Stop::Unreadable(refusal) = stop {
+        return line::put_refusal(out, at, record::refusal_number(refusal));
     }
+    at
 }

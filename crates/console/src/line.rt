@@ -64,14 +64,14 @@ pub fn put_refusal(out: &mut [u8], at: usize, number: u32) -> usize {
     put_number(out, end, number as u64, b'\n')
 }
 
-// How many fields a report of a kind has.
+// How many fields a report of a kind has. Kind 0 is a refusal: "0 n".
 fn fields(kind: u64) -> usize
     ensures { λ r. ⌜ r ≤ 4 ⌝ }
 {
     match kind {
         1 | 3 | 4 => 3,
         2 => 4,
-        6 => 1,
+        0 | 6 => 1,
         _ => 0,
     }
 }

@@ -35,7 +35,7 @@ overwrite-then b x y at h =
     let whole : take at b ++ (x ++ drop m b) ≡ front ++ drop m b = sym (append-assoc (take at b) x (drop m b)) in
     let k : m + length y ≡ at + length (x ++ y) = omega (arith, length-append x y) in
     let back : drop (m + length y) (take at b ++ (x ++ drop m b)) ≡ drop (at + length (x ++ y)) b =
-        sym (drop-drop (length y) m (take at b ++ (x ++ drop m b))) ∙ ap (drop (length y)) (ap (drop m) whole ∙ drop-at front (drop m b) m l) ∙ drop-drop (length y) m b ∙ ap (λ (j : ℕ). drop j b) k in
+    sym (drop-drop (length y) m (take at b ++ (x ++ drop m b))) ∙ ap (drop (length y)) (ap (drop m) whole ∙ drop-at front (drop m b) m l) ∙ drop-drop (length y) m b ∙ ap (λ (j : ℕ). drop j b) k in
     ap (λ (z : List ℕ). z ++ (y ++ drop (m + length y) (take at b ++ (x ++ drop m b)))) (ap (take m) whole ∙ take-at front (drop m b) m l)
     ∙ ap (λ (z : List ℕ). front ++ (y ++ z)) back
     ∙ append-assoc (take at b) x (y ++ drop (at + length (x ++ y)) b)

@@ -4,10 +4,10 @@ use native.Mathlib.Omega.{arith}
 use mathlib.Core.Path.{_≡_, refl, sym, ap, subst, _∙_}
 use mathlib.Core.Bool.{Bool, true, false}
 use mathlib.Core.Logic.{_⊎_, inl, inr}
-use mathlib.Core.List.{List, [], _∷_, _++_, map, map-append, append-nil}
+use mathlib.Core.List.{List, [], _∷_, _++_, map, map-append, append-nil, append-assoc}
 use lib.Dec.{T, eqb}
-use lib.ListN.{length, getD, take, drop, length-replicate}
-use lib.Seq.{sets, sets-eq, take-append-seam}
+use lib.ListN.{length, getD, take, drop, length-append, length-replicate}
+use lib.Seq.{sets, sets-eq, take-append-seam, drop-append-le}
 use Rattle.numbers.specs.Tests.{pick, All}
 use Rattle.numbers.specs.Answers.{Outcome, gives, refuses, Read}
 use Rattle.numbers.specs.SevenBit.{IsByte, bytesOfAll, Stands, overwrite}
@@ -293,6 +293,22 @@ same-answer records at x y (inr p) (inr q) =
     let n : p .number ≡ q .number = same-refusal (sym (p .is) ∙ q .is) in
     omega (arith, p .answer, q .answer, n)
 
+-- what is read in a front of the records is read in all of them
+
+stands-longer : {b new : List ℕ} {at end : ℕ} (behind : List ℕ) → Stands b at new end → Stands (b ++ behind) at new end
+stands-longer {b} {new} {at} {end} behind s =
+    record {
+      ends = s .ends;
+      inside = omega (arith, s .inside, length-append b behind);
+      there = drop-append-le at b behind (omega (arith, s .ends, s .inside)) ∙ ap (λ (l : List ℕ). l ++ behind) (s .there) ∙ append-assoc new (drop end b) behind ∙ ap (λ (l : List ℕ). new ++ l) (sym (drop-append-le end b behind (s .inside)));
+    }
+
+reads-longer : {front : List ℕ} {at at′ : ℕ} {es : List Event} (behind : List ℕ) → All IsByte front → Reads front at es at′ → Reads (front ++ behind) at es at′
+reads-longer behind h noneRead = noneRead
+reads-longer {front} {at} behind h (moreRead {r = r} e p) =
+    let s = record-unique front at r h e in
+    moreRead (record-read-back (front ++ behind) at r (record { words = s .words; stands = stands-longer behind (s .stands) })) (reads-longer behind h p)
+
 record PiecesTold (records w : List ℕ) (from : ℕ) (cs : List PlayCall) (w′ : List ℕ) (at x : ℕ) : Type 0 where
   bytes : All IsByte records
   read : List Event
@@ -313,7 +329,7 @@ pieces-told {records} {w} {w′} {from} t (last {c = c} p r f q) =
       calls = append-nil (callsPlayed c) ∙ d .calls;
       ends = rw (sym r) (last-answer (c .records) _ (c .answer) ((whole t p) .stop) (rw (progress-is t p) (stopped-at (length (c .places)) (c .records) (dayStarts w (c .from) (c .lent) (c .places)))) (p .is .answers ∙ rw (is-whole t p)) q);
     }
-pieces-told {records} {w} {w′} {from} {at} {x} t (moreThen {w₁ = w₁} {c = c} {cs = cs} p r f later) =
+pieces-told {records} {w} {w′} {from} {at} {x} t (moreThen {w₁ = w₁} {c = c} {cs = cs} behind p r f later) =
     let d = day-told t p in
     let e = pieces-told (p .is .done .sound t) later in
     let v = steps-venue t (d .steps) in
@@ -321,7 +337,7 @@ pieces-told {records} {w} {w′} {from} {at} {x} t (moreThen {w₁ = w₁} {c = 
     record {
       bytes = e .bytes;
       read = d .read ++ e .read;
-      reads = reads-then {es = d .read} (rw (sym r, sym f) (d .reads)) (e .reads);
+      reads = reads-then {es = d .read} (rw (sym r, sym f) (reads-longer behind (p .bytes) (d .reads))) (e .reads);
       venue = e .venue ∙ ap (λ (z : Venue). (run z (map callOf (e .read))) .venue) v ∙ sym (both .1);
       calls = ap (λ (l : List ApplyCall). l ++ piecesPlayed cs) (d .calls) ∙ ap (λ (l : List ApplyCall). map dayCall (answeredOf (venueOf w) (d .read)) ++ l) (e .calls ∙ ap (λ (z : Venue). map dayCall (answeredOf z (e .read))) v) ∙ sym (map-append dayCall (answeredOf (venueOf w) (d .read)) (answeredOf ((run (venueOf w) (map callOf (d .read))) .venue) (e .read))) ∙ ap (map dayCall) (sym (both .0));
       ends = e .ends;

@@ -121,11 +121,12 @@ EqualDayReports =
 
 -- A day in pieces
 
--- calls on the same records, the first from the offset from on, each later one from where the one before it stopped; the last stopped at the
--- offset at with the answer x, and not for want of room: at the end of the records, or at a record that can't be read
+-- calls one after another from the words w to the words w′: the first from the offset from on, each later one from where the one before it stopped.
+-- Each is lent the records or a front of them, as a host does that reads them bit by bit, and the last all of them; it stopped at the offset at with
+-- the answer x, and not for want of room: at the end of the records, or at a record that can't be read
 pub data Pieces (records : List ℕ) : List ℕ → ℕ → List PlayCall → List ℕ → ℕ → ℕ → Type 0 where
   last : {w w′ : List ℕ} {from : ℕ} {c : PlayCall} → PlayedBy w c w′ → c.records ≡ records → c.from ≡ from → (c.answer ≡ allPlayed) ⊎ (65_536 ≤ c.answer) → Pieces records w from (c ∷ []) w′ (getD (c .progress) 1 0) (c .answer)
-  more : {w w₁ w′ : List ℕ} {from at x : ℕ} {c : PlayCall} {cs : List PlayCall} → PlayedBy w c w₁ → c.records ≡ records → c.from ≡ from → Pieces records w₁ (getD (c .progress) 1 0) cs w′ at x → Pieces records w from (c ∷ cs) w′ at x
+  more : {w w₁ w′ : List ℕ} {from at x : ℕ} {c : PlayCall} {cs : List PlayCall} (behind : List ℕ) → PlayedBy w c w₁ → (c .records) ++ behind ≡ records → c.from ≡ from → Pieces records w₁ (getD (c .progress) 1 0) cs w′ at x → Pieces records w from (c ∷ cs) w′ at x
 
 unfoldable pub piecesPlayed : List PlayCall → List ApplyCall
 piecesPlayed [] = []
