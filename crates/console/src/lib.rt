@@ -39,7 +39,8 @@ fn play_day(input: &[u8], from: usize, close: u32, out: &mut [u8]) -> usize {
     }
 }
 
-// "9 to 12 .. end it. An input that ends right after the close or after a record prints nothing for that end"
+// "9 to 12 .. end it. An input that ends right after the close or after a record prints nothing for that end". A stop is looked at where a call plays
+// nothing: the call before it has then printed the events before it.
 fn play_records(words: &mut [u32], input: &[u8], from: usize, out: &mut [u8]) -> usize {
     let mut space = [0u8; 65536];
     let reports: &mut [u8] = &mut space;

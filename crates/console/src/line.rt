@@ -98,7 +98,7 @@ fn put_next(out: &mut [u8], reports: &[u8], p: Progress, left: usize) -> Progres
     }
 }
 
-// The line of the report at a position: its kind, then its fields.
+// The line of the report or refusal at a position: its kind, then its fields.
 fn put_report(out: &mut [u8], at: usize, reports: &[u8], from: usize) -> Progress {
     let mut p = Progress {
         at: make_room(out, at),
@@ -120,7 +120,7 @@ fn kind_at(reports: &[u8], from: usize) -> u64 {
     }
 }
 
-// The lines of the reports in the first bytes of a buffer.
+// The lines of the reports and refusals in the first bytes of a buffer.
 pub fn put_reports(out: &mut [u8], at: usize, reports: &[u8], count: usize) -> usize {
     let mut end = at;
     let mut next = 0;

@@ -2,7 +2,7 @@
 use Prim.Native.Nat.{ℕ, zero, suc, _+_, _-_, _≤_, _<_}
 use native.Mathlib.Omega.{arith}
 use mathlib.Core.Path.{_≡_, refl, sym, ap, subst, _∙_}
-use mathlib.Core.Bool.{Bool, true, false}
+use mathlib.Core.Bool.{false}
 use mathlib.Core.List.{List, [], _∷_, _++_, append-nil}
 use lib.Dec.{T, leb, le→leb}
 use lib.ListN.{length, getD, set, take, drop, length-set, length-append, length-drop, drop-of-length-le, take-append-drop}
@@ -12,13 +12,11 @@ use borrow.Rule.Slice.PartMut.{midOf, putMid, put-same}
 use Rattle.numbers.specs.Tests.{pick, All}
 use Rattle.numbers.specs.Answers.{Outcome, gives, refuses, Read}
 use Rattle.numbers.specs.SevenBit.{bytesOfAll, overwrite, Put}
-use Rattle.numbers.proofs.TestLaws.{pick-yes, and-T}
-use Rattle.numbers.proofs.ByteLaws.{bytes-last}
+use Rattle.numbers.proofs.TestLaws.{pick-yes}
+use Rattle.numbers.proofs.ByteLaws.{two-bytes}
 use Rattle.numbers.proofs.WriteLaws.{put-length}
-use Rattle.book.specs.rules.Words.{isBook}
 use Rattle.engine.specs.declared.Event.{Event}
 use Rattle.engine.specs.rules.Reports.{Report}
-use Rattle.engine.specs.rules.Sound.{sound}
 use Rattle.engine.specs.rules.Refusals.{leastBuffer}
 use Rattle.engine.specs.rules.Run.{Step, step}
 use Rattle.engine.specs.rules.Records.{recordNumbers, reportsBytes, recordAt}
@@ -26,6 +24,8 @@ use Rattle.engine.specs.rules.Answers.{countOf, bufferAfter}
 use Rattle.engine.specs.rules.Layout.{venueOf, soundWords, stepIn}
 use Rattle.engine.specs.claims.RoundTrips.{Word}
 use Rattle.engine.specs.claims.Calls.{SameSpare, Applied}
+use Rattle.engine.proofs.refinement.MemoryLaws.{spare-same, spare-then}
+use Rattle.engine.proofs.refinement.RefuseLaws.{words-book}
 use Rattle.engine.proofs.refinement.OpeningLaws.{step-in}
 use Rattle.engine.proofs.demand3.CallLaws.{Readable, step-readable, event-lastId, step-same, applied-elsewhere}
 use Rattle.records.specs.declared.ReadRefusal.{ReadRefusal}
@@ -33,7 +33,7 @@ use Rattle.records.specs.RecordAnswers.{readRefusalNumber}
 use Rattle.days.specs.declared.Played.{Played}
 use Rattle.days.specs.declared.Stop.{Stop}
 use Rattle.days.specs.declared.Stop.the-variants.{AllPlayed, EndsFull, ReportsFull, Unreadable, VenueBroken}
-use Rattle.days.specs.Days.{answerBytes, allPlayed, endsFull, reportsFull, Day, dayAfter, Stopped, stopped, playOn, dayStarts, played}
+use Rattle.days.specs.Days.{answerBytes, allPlayed, endsFull, reportsFull, Day, dayAfter, stopped, playOn, dayStarts, played}
 use Rattle.days.specs.DayCalls.{outcomeOfStop, answerIn, Stepped, EventPlayed, Reads, none, more, Steps, still, then, EventsPlayed, DayDone, DayPlayed}
 
 -- the buffer lent from an offset on
@@ -48,10 +48,10 @@ module _ (b : List ℕ) (end : ℕ) (h : end ≤ length b) where
   mid-is : midOf end rest b ≡ drop end b
   mid-is = sym (append-nil (take rest (drop end b))) ∙ ap (λ (l : List ℕ). take rest (drop end b) ++ l) (sym no-more) ∙ take-append-drop rest (drop end b)
 
-  pub mid-length : length (midOf end rest b) ≡ length b - end
+  mid-length : length (midOf end rest b) ≡ length b - end
   mid-length = ap length mid-is ∙ length-drop end b
 
-  pub part-put : (new : List ℕ) → putMid end rest b (overwrite (midOf end rest b) 0 new) ≡ overwrite b end new
+  part-put : (new : List ℕ) → putMid end rest b (overwrite (midOf end rest b) 0 new) ≡ overwrite b end new
   unfolding overwrite
   part-put new =
       let m : end + (0 + length new) ≡ end + length new = omega arith in
@@ -61,23 +61,10 @@ module _ (b : List ℕ) (end : ℕ) (h : end ≤ length b) where
       ∙ ap (λ (l : List ℕ). take end b ++ (new ++ l)) (drop-drop (0 + length new) end b ∙ ap (λ (k : ℕ). drop k b) m)
 
 -- the two numbers of a refusal are two bytes
-pub refusal-bytes : (n : ℕ) → n < 128 → bytesOfAll (0 ∷ n ∷ []) ≡ 0 ∷ n ∷ []
-unfolding bytesOfAll
-refusal-bytes n l = ap (λ (x : List ℕ). x ++ bytesOfAll (n ∷ [])) (bytes-last 0 (omega arith)) ∙ ap (λ (x : List ℕ). 0 ∷ (x ++ [])) (bytes-last n l)
-
 pub refusal-size : (n : ℕ) → n < 128 → length (bytesOfAll (0 ∷ n ∷ [])) ≡ 2
-refusal-size n l = ap length (refusal-bytes n l)
+refusal-size n l = ap length (two-bytes 0 n (omega arith) l)
 
 -- one event
-
-module _ (w : List ℕ) (e : Event) (t : T (soundWords w)) where
-  laid-out : T (isBook w)
-  unfolding soundWords
-  laid-out = and-T (isBook w) (sound (venueOf w)) t .0
-
-  -- the step of sound words with any buffer that is long enough
-  step-long : (n : ℕ) → leastBuffer ≤ n → stepIn w e n ≡ step (venueOf w) e leastBuffer
-  step-long n l = step-in w e n laid-out ∙ step-same (venueOf w) e n leastBuffer l (omega arith)
 
 module _ (w w′ b b₁ : List ℕ) (e : Event) (end : ℕ) {o : Outcome ℕ} (t : T (soundWords w)) (l : end + leastBuffer ≤ length b) (h : All Word (recordNumbers e)) (i : Word (getD w 4 0)) (a : Applied w e (midOf end (length b - end) b) o w′ b₁) where
   abbrev lent : List ℕ
@@ -87,7 +74,7 @@ module _ (w w′ b b₁ : List ℕ) (e : Event) (end : ℕ) {o : Outcome ℕ} (t
   long = omega (arith, mid-length b end (omega (arith, l)), l)
 
   same-step : stepIn w e (length lent) ≡ step (venueOf w) e leastBuffer
-  same-step = step-long w e t (length lent) long
+  same-step = step-in w e (length lent) (words-book w t) ∙ step-same (venueOf w) e (length lent) leastBuffer long (omega arith)
 
   answers : o ≡ countOf (answerIn w e)
   unfolding answerIn
@@ -108,7 +95,7 @@ module _ (w w′ b b₁ : List ℕ) (e : Event) (end : ℕ) {o : Outcome ℕ} (t
         sound = u;
         venue = a .venue ∙ ap (λ (z : Step). z .venue) same-step;
         same = a .same;
-        stepped = record { words = h; applies = applied-elsewhere (laid-out w e t) long a; fits = f };
+        stepped = record { words = h; applies = applied-elsewhere (words-book w t) long a; fits = f };
         wrote = p;
         inside = omega (arith, p .ends, f, l);
       }
@@ -136,28 +123,28 @@ module _ (w w′ b b₁ : List ℕ) (e : Event) (end : ℕ) {o : Outcome ℕ} (t
 
 -- the fold
 
-abbrev pub dayOf : List ℕ → List ℕ → List ℕ → ℕ → ℕ → ℕ → Day
+abbrev dayOf : List ℕ → List ℕ → List ℕ → ℕ → ℕ → ℕ → Day
 dayOf w b es at end k = record { venue = venueOf w; bytes = b; ends = es; at = at; end = end; events = k }
 
-pub play-end : (n : ℕ) (records : List ℕ) (d : Day) → length records ≤ d.at → playOn n records d ≡ stopped d (gives allPlayed)
+play-end : (n : ℕ) (records : List ℕ) (d : Day) → length records ≤ d.at → playOn n records d ≡ stopped d (gives allPlayed)
 unfolding playOn
 play-end zero records d l = pick-yes (leb (length records) (d .at)) _ _ (le→leb _ _ l)
 play-end (suc n) records d l = pick-yes (leb (length records) (d .at)) _ _ (le→leb _ _ l)
 
-pub play-full : (n : ℕ) (records : List ℕ) (d : Day) → n ≡ 0 → d.at < length records → playOn n records d ≡ stopped d (gives endsFull)
+play-full : (n : ℕ) (records : List ℕ) (d : Day) → n ≡ 0 → d.at < length records → playOn n records d ≡ stopped d (gives endsFull)
 unfolding playOn pick
 play-full n records d z l = rw (z, lt-leb (length records) (d .at) l)
 
-pub play-short : (n : ℕ) (records : List ℕ) (d : Day) → d.at < length records → length (d .bytes) - d.end < leastBuffer → playOn (suc n) records d ≡ stopped d (gives reportsFull)
+play-short : (n : ℕ) (records : List ℕ) (d : Day) → d.at < length records → length (d .bytes) - d.end < leastBuffer → playOn (suc n) records d ≡ stopped d (gives reportsFull)
 unfolding playOn pick
 play-short n records d l s = rw (lt-leb (length records) (d .at) l, lt-leb leastBuffer (length (d .bytes) - d.end) s)
 
 module _ (n : ℕ) (records : List ℕ) (d : Day) (l : d.at < length records) (s : leastBuffer ≤ length (d .bytes) - d.end) where
-  pub play-unread : {m : ℕ} → recordAt records (d .at) ≡ refuses m → playOn (suc n) records d ≡ stopped d (refuses m)
+  play-unread : {m : ℕ} → recordAt records (d .at) ≡ refuses m → playOn (suc n) records d ≡ stopped d (refuses m)
   unfolding playOn pick
   play-unread e = rw (lt-leb (length records) (d .at) l, le-leb leastBuffer (length (d .bytes) - d.end) s, e)
 
-  pub play-more : {r : Read Event} → recordAt records (d .at) ≡ gives r → playOn (suc n) records d ≡ playOn n records (dayAfter d r)
+  play-more : {r : Read Event} → recordAt records (d .at) ≡ gives r → playOn (suc n) records d ≡ playOn n records (dayAfter d r)
   unfolding playOn pick
   play-more e = rw (lt-leb (length records) (d .at) l, le-leb leastBuffer (length (d .bytes) - d.end) s, e)
 
@@ -177,9 +164,6 @@ step-more (then u p) s = then u (step-more p s)
 
 -- the loop
 
-spare-then : {u v w : List ℕ} → SameSpare u v → SameSpare v w → SameSpare u w
-spare-then a b = record { size = b .size ∙ a .size; spare = λ j h k. b .spare j h k ∙ a .spare j h k; behind = λ j h. b .behind j h ∙ a .behind j h }
-
 -- what holds when k events were played: what is still to be played gives what was to be played at the start
 pub record Playing (w₀ records : List ℕ) (from : ℕ) (b₀ es₀ w b es : List ℕ) (at end k : ℕ) : Type 0 where
   pub start : T (soundWords w₀)
@@ -197,7 +181,7 @@ playing-starts w records from b es t =
     record {
       start = t;
       sound = t;
-      same = record { size = refl; spare = λ j h k. refl; behind = λ j h. refl };
+      same = spare-same w;
       inside = omega arith;
       long = refl;
       places = refl;
@@ -260,7 +244,7 @@ module _ (w records : List ℕ) (from : ℕ) (b es : List ℕ) (f : soundWords w
         venue = rw broken-day;
         buffer = rw broken-day;
         ends = rw broken-day;
-        same = record { size = refl; spare = λ j h k. refl; behind = λ j h. refl };
+        same = spare-same w;
         refused = λ z. refl;
         sound = λ t. t;
         applied = λ t. absurd (subst T f t);

@@ -3,48 +3,23 @@ use Prim.Native.Nat.{ℕ, zero, suc, _+_, _-_, _≤_, _<_}
 use native.Mathlib.Omega.{arith}
 use native.Mathlib.Numerals.{add-one}
 use mathlib.Core.Path.{_≡_, refl, sym, ap, subst, _∙_}
-use mathlib.Core.List.{List, [], _∷_, _++_, map, append-assoc}
-use lib.Dec.{T, leb, leb→le, nleb→lt}
-use lib.ListN.{length, set, take, drop, length-append, length-drop}
-use lib.Seq.{sets, drop-drop, take-at, drop-at, length-take-le}
+use mathlib.Core.List.{List, [], _∷_, _++_, map}
+use lib.Dec.{leb, leb→le, nleb→lt}
+use lib.ListN.{length, set, length-append}
+use lib.Seq.{sets}
 use Rattle.numbers.specs.Answers.{Outcome, gives, refuses, Read}
-use Rattle.numbers.specs.Tests.{All}
-use Rattle.numbers.specs.SevenBit.{IsByte, bytesOf, bytesOfAll, overwrite}
 use Rattle.numbers.proofs.TestLaws.{by-test}
-use Rattle.numbers.proofs.ByteLaws.{length-positive}
+use Rattle.numbers.proofs.PlaceLaws.{overwrite-then, overwrite-long}
 use Rattle.numbers.proofs.WriteLaws.{put-none}
 use Rattle.engine.specs.declared.Event.{Event}
-use Rattle.engine.specs.declared.Event.the-variants.{Entry as entry, Cancel as cancel, Bid as bid, Tape as tape, DayEnd as dayEnd}
 use Rattle.engine.specs.rules.Refusals.{leastBuffer}
 use Rattle.engine.specs.rules.Venue.{Venue}
 use Rattle.engine.specs.rules.Run.{Step, step, Answered, Run, run}
-use Rattle.engine.specs.rules.Records.{recordBytes, recordAt}
-use Rattle.engine.proofs.bytes.RecordLaws.{given, record-unique}
+use Rattle.engine.specs.rules.Records.{recordAt}
+use Rattle.engine.proofs.bytes.RecordLaws.{given}
 use Rattle.days.specs.Days.{answerBytes, allPlayed, Day, dayAfter, Stopped, byRecord, playOn}
 use Rattle.days.specs.DayCalls.{Reads, none, more}
 use Rattle.days.specs.DayRuns.{callOf, answeredBytes, endsFrom, OneByOne, PlayedOneByOne}
-
--- bytes behind bytes
-
-overwrite-then : (b x y : List ℕ) (at : ℕ) → at ≤ length b → overwrite (overwrite b at x) (at + length x) y ≡ overwrite b at (x ++ y)
-unfolding overwrite
-overwrite-then b x y at h =
-    let m : ℕ = at + length x in
-    let front : List ℕ = take at b ++ x in
-    let l : length front ≡ m = length-append (take at b) x ∙ ap (λ (k : ℕ). k + length x) (length-take-le at b h) in
-    let whole : take at b ++ (x ++ drop m b) ≡ front ++ drop m b = sym (append-assoc (take at b) x (drop m b)) in
-    let k : m + length y ≡ at + length (x ++ y) = omega (arith, length-append x y) in
-    let back : drop (m + length y) (take at b ++ (x ++ drop m b)) ≡ drop (at + length (x ++ y)) b =
-    sym (drop-drop (length y) m (take at b ++ (x ++ drop m b))) ∙ ap (drop (length y)) (ap (drop m) whole ∙ drop-at front (drop m b) m l) ∙ drop-drop (length y) m b ∙ ap (λ (j : ℕ). drop j b) k in
-    ap (λ (z : List ℕ). z ++ (y ++ drop (m + length y) (take at b ++ (x ++ drop m b)))) (ap (take m) whole ∙ take-at front (drop m b) m l)
-    ∙ ap (λ (z : List ℕ). front ++ (y ++ z)) back
-    ∙ append-assoc (take at b) x (y ++ drop (at + length (x ++ y)) b)
-    ∙ ap (λ (z : List ℕ). take at b ++ z) (sym (append-assoc x y (drop (at + length (x ++ y)) b)))
-
-overwrite-long : (b x : List ℕ) (at : ℕ) → at ≤ length b → at + length x ≤ length (overwrite b at x)
-unfolding overwrite
-overwrite-long b x at h =
-    omega (arith, length-append (take at b) (x ++ drop (at + length x) b), length-take-le at b h, length-append x (drop (at + length x) b))
 
 -- one by one
 
@@ -153,20 +128,3 @@ reads-all {records} {at} {a} {b} (more {r = r} {es = es} e p) (more {r = s} {es 
     let z : r ≡ s = same-read e f in
     let g = reads-all p (subst (λ (y : Read Event). Reads records (y .end) fs b) (sym z) q) k m in
     (ap (λ (y : List Event). r.value ∷ y) (g .0) ∙ ap (λ (y : Read Event). y.value ∷ fs) z, g .1)
-
--- an event that is read takes a byte or more
-
-numbers-positive : (k : ℕ) (xs : List ℕ) → 1 ≤ length (bytesOfAll (k ∷ xs))
-unfolding bytesOfAll
-numbers-positive k xs = omega (arith, length-append (bytesOf k) (bytesOfAll xs), length-positive k)
-
-record-positive : (e : Event) → 1 ≤ length (recordBytes e)
-unfolding recordBytes
-record-positive (entry e) = numbers-positive 1 (e .id ∷ e .mark ∷ e .price ∷ e .shares ∷ e .show ∷ e .life ∷ e .slide ∷ [])
-record-positive (cancel i) = numbers-positive 2 (i ∷ [])
-record-positive (bid b) = numbers-positive 3 (b ∷ [])
-record-positive (tape p) = numbers-positive 4 (p ∷ [])
-record-positive (dayEnd c) = numbers-positive 5 (c ∷ [])
-
-pub read-inside : (records : List ℕ) (at : ℕ) (r : Read Event) → All IsByte records → recordAt records at ≡ gives r → at < length records
-read-inside records at r h e = let s = record-unique records at r h e .stands in omega (arith, s .ends, s .inside, record-positive (r .value))

@@ -21,7 +21,7 @@ use Rattle.records.specs.RecordAnswers.{readRefusalNumber}
 use Rattle.days.specs.declared.Played.{Played}
 use Rattle.days.specs.declared.Stop.{Stop}
 use Rattle.days.specs.declared.Stop.the-variants.{AllPlayed, EndsFull, ReportsFull, Unreadable, VenueBroken}
-use Rattle.days.specs.Days.{answerBytes, allPlayed, endsFull, reportsFull, Stopped, played}
+use Rattle.days.specs.Days.{answerBytes, allPlayed, endsFull, reportsFull, played}
 
 -- why playing stopped, by numbers
 abbrev pub outcomeOfStop : Stop → Outcome ℕ

@@ -1,5 +1,5 @@
 -- A played day is the same events one by one, as a statement about the definitions. Assumes nothing.
-use Prim.Native.Nat.{ℕ, zero, suc, _+_, _≤_}
+use Prim.Native.Nat.{ℕ, _+_, _≤_}
 use mathlib.Core.Path.{_≡_}
 use mathlib.Core.List.{List, [], _∷_, _++_, map}
 use lib.ListN.{length}
@@ -7,8 +7,8 @@ use lib.Seq.{sets}
 use Rattle.numbers.specs.SevenBit.{overwrite}
 use Rattle.engine.specs.declared.Event.{Event}
 use Rattle.engine.specs.rules.Refusals.{leastBuffer}
-use Rattle.engine.specs.rules.Run.{Call, Answered, Run, run}
-use Rattle.days.specs.Days.{answerBytes, Day, Stopped, playOn}
+use Rattle.engine.specs.rules.Run.{Call, Answered, run}
+use Rattle.days.specs.Days.{answerBytes, Day, playOn}
 use Rattle.days.specs.DayCalls.{Reads}
 
 -- an event with a buffer of its own

@@ -42,6 +42,7 @@ fn play_event(words: &mut [u32], event: Event, reports: &mut [u8], end: usize) -
     }
 }
 
+// How far playing came; each way to stop says it so.
 fn how_far(events: usize, at: usize, end: usize, stop: Stop) -> Played
     ensures { λ r. ⌜ r ≡ record { events = events; at = at; end = end; stop = stop } ⌝ }
 {
@@ -54,7 +55,7 @@ fn how_far(events: usize, at: usize, end: usize, stop: Stop) -> Played
 }
 
 // Plays the records from an offset on, of words that are known to be sound.
-pub fn play_sound(
+fn play_sound(
     words: &mut [u32],
     records: &[u8],
     from: usize,

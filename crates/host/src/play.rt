@@ -2,12 +2,14 @@
 use crate::calls;
 use days::Stop;
 use days::play;
-use engine::refuse;
 use records::record;
 ghost use mathlib.Core.Path.{_≡_};
 ghost use Rattle.days.specs.DayCalls.{outcomeOfStop};
 ghost use Rattle.host.specs.rules.Host.{hostAnswer};
 ghost use Rattle.host.specs.claims.PlayCalls.{HostPlayed};
+
+// The answer of refusal 16.
+const VENUE_BROKEN: u32 = 16 * calls::REFUSAL_UNIT;
 
 // Why playing stopped, as a number: refusal × REFUSAL_UNIT, or 0 to 2 where nothing is refused.
 fn stop_number(stop: Stop) -> u32
@@ -18,7 +20,7 @@ fn stop_number(stop: Stop) -> u32
         Stop::EndsFull => 1,
         Stop::ReportsFull => 2,
         Stop::Unreadable(refusal) => record::refusal_number(refusal) * calls::REFUSAL_UNIT,
-        Stop::VenueBroken => 16 * calls::REFUSAL_UNIT,
+        Stop::VenueBroken => VENUE_BROKEN,
     }
 }
 
@@ -34,11 +36,12 @@ pub extern "C" fn venue_play(
 ) -> u32
     ensures { λ r. ⌜ HostPlayed (now (words .entry)) (now (records .entry)) from (now (reports .entry)) (now (ends .entry)) (now (progress .entry)) r (now (words .exit)) (now (reports .exit)) (now (ends .exit)) (now (progress .exit)) ⌝ }
 {
-    if !refuse::venue_sound(words) {
-        return 16 * calls::REFUSAL_UNIT;
-    }
-    let played = play::play_sound(words, records, from as usize, reports, ends);
-    *progress = [played.events as u64, played.at as u64, played.end as u64];
+    let played = play::play(words, records, from as usize, reports, ends);
+    let reached = [played.events as u64, played.at as u64, played.end as u64];
     let stop = played.stop;
-    stop_number(stop)
+    let answer = stop_number(stop);
+    if answer != VENUE_BROKEN {
+        *progress = reached;
+    }
+    answer
 }

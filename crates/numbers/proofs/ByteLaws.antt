@@ -93,6 +93,11 @@ pub kind-size : (k : ℕ) (xs : List ℕ) → k < 128 → All (λ (x : ℕ). x <
 unfolding bytesOfAll
 kind-size k xs l h = simp length-append (omega (arith, length-last k l, numbers-size xs h))
 
+-- two numbers of one group
+pub two-bytes : (x y : ℕ) → x < 128 → y < 128 → bytesOfAll (x ∷ y ∷ []) ≡ x ∷ y ∷ []
+unfolding bytesOfAll
+two-bytes x y h k = rw (bytes-last x h, bytes-last y k)
+
 -- the bytes of numbers are bytes
 
 groups-bytes : (n x : ℕ) → x ≤ n → All IsByte (bytesOf x)

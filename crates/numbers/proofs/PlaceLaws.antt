@@ -4,7 +4,7 @@ use native.Mathlib.Omega.{arith}
 use mathlib.Core.Path.{_≡_, refl, sym, ap, _∙_}
 use mathlib.Core.List.{List, [], _++_, append-assoc}
 use lib.ListN.{length, take, drop, length-append, take-append-drop}
-use lib.Seq.{sets, sets-eq, length-sets, length-take-le, drop-at, drop-drop, drop-append-seam}
+use lib.Seq.{sets, sets-eq, length-sets, length-take-le, take-at, drop-at, drop-drop, drop-append-seam, drop-append-le}
 use Rattle.numbers.specs.SevenBit.{overwrite, Stands}
 
 -- at the front of a list
@@ -69,3 +69,34 @@ overwrite-stands bytes at new h =
 
     behind : drop (at + length new) (take at bytes ++ (new ++ rest)) ≡ rest
     behind = sym (drop-drop (length new) at (take at bytes ++ (new ++ rest))) ∙ ap (drop (length new)) front ∙ drop-append-seam new rest
+
+-- bytes behind bytes
+
+pub overwrite-then : (b x y : List ℕ) (at : ℕ) → at ≤ length b → overwrite (overwrite b at x) (at + length x) y ≡ overwrite b at (x ++ y)
+unfolding overwrite
+overwrite-then b x y at h =
+    let m : ℕ = at + length x in
+    let front : List ℕ = take at b ++ x in
+    let l : length front ≡ m = length-append (take at b) x ∙ ap (λ (k : ℕ). k + length x) (length-take-le at b h) in
+    let whole : take at b ++ (x ++ drop m b) ≡ front ++ drop m b = sym (append-assoc (take at b) x (drop m b)) in
+    let k : m + length y ≡ at + length (x ++ y) = omega (arith, length-append x y) in
+    let back : drop (m + length y) (take at b ++ (x ++ drop m b)) ≡ drop (at + length (x ++ y)) b =
+    sym (drop-drop (length y) m (take at b ++ (x ++ drop m b))) ∙ ap (drop (length y)) (ap (drop m) whole ∙ drop-at front (drop m b) m l) ∙ drop-drop (length y) m b ∙ ap (λ (j : ℕ). drop j b) k in
+    ap (λ (z : List ℕ). z ++ (y ++ drop (m + length y) (take at b ++ (x ++ drop m b)))) (ap (take m) whole ∙ take-at front (drop m b) m l)
+    ∙ ap (λ (z : List ℕ). front ++ (y ++ z)) back
+    ∙ append-assoc (take at b) x (y ++ drop (at + length (x ++ y)) b)
+    ∙ ap (λ (z : List ℕ). take at b ++ z) (sym (append-assoc x y (drop (at + length (x ++ y)) b)))
+
+pub overwrite-long : (b x : List ℕ) (at : ℕ) → at ≤ length b → at + length x ≤ length (overwrite b at x)
+unfolding overwrite
+overwrite-long b x at h =
+    omega (arith, length-append (take at b) (x ++ drop (at + length x) b), length-take-le at b h, length-append x (drop (at + length x) b))
+
+-- more bytes behind them
+pub stands-longer : {b new : List ℕ} {at end : ℕ} (behind : List ℕ) → Stands b at new end → Stands (b ++ behind) at new end
+stands-longer {b} {new} {at} {end} behind s =
+    record {
+      ends = s .ends;
+      inside = omega (arith, s .inside, length-append b behind);
+      there = drop-append-le at b behind (omega (arith, s .ends, s .inside)) ∙ ap (λ (l : List ℕ). l ++ behind) (s .there) ∙ append-assoc new (drop end b) behind ∙ ap (λ (l : List ℕ). new ++ l) (sym (drop-append-le end b behind (s .inside)));
+    }

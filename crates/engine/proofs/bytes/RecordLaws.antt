@@ -2,7 +2,8 @@
 use Prim.Native.Nat.{ℕ, zero, suc, _+_, _^_, _≤_, _<_}
 use native.Mathlib.Omega.{arith}
 use mathlib.Core.Path.{_≡_, refl, sym, ap, _∙_, subst}
-use mathlib.Core.List.{List, [], _∷_}
+use mathlib.Core.Bool.{false}
+use mathlib.Core.List.{List, [], _∷_, _++_}
 use mathlib.Core.Option.{Option, none, some}
 use lib.Dec.{leb, eqb, leb→le, eqb→eq}
 use lib.ListN.{length, getD, length-append}
@@ -11,7 +12,7 @@ use Rattle.numbers.specs.Tests.{pick, All}
 use Rattle.numbers.specs.Answers.{Outcome, gives, refuses, Read}
 use Rattle.numbers.specs.SevenBit.{IsByte, bytesOf, bytesOfAll, numberAt, Stands}
 use Rattle.numbers.proofs.TestLaws.{by-test}
-use Rattle.numbers.proofs.ByteLaws.{length-positive}
+use Rattle.numbers.proofs.ByteLaws.{bytes-last, length-positive}
 use Rattle.numbers.proofs.PlaceLaws.{stands-none, stands-then, stands-front, stands-behind}
 use Rattle.numbers.proofs.ReadLaws.{read-there, NumberStands, read-unique}
 use Rattle.engine.specs.declared.Event.{Event}
@@ -210,11 +211,25 @@ pub report-unique : ReportsReadOnly
 unfolding reportBytes reportAt
 report-unique = reads-only reportNumbers reportBytes reportFields reportOf (λ x. refl) report-numbers
 
--- Reports one after another
+-- a record takes a byte or more
 
 form-positive : (k : ℕ) (xs : List ℕ) → 1 ≤ length (bytesOfAll (k ∷ xs))
 unfolding bytesOfAll
 form-positive k xs = omega (arith, length-positive k, length-append (bytesOf k) (bytesOfAll xs))
+
+record-positive : (e : Event) → 1 ≤ length (recordBytes e)
+unfolding recordBytes
+record-positive (entry e) = form-positive 1 _
+record-positive (cancel i) = form-positive 2 _
+record-positive (bid b) = form-positive 3 _
+record-positive (tape p) = form-positive 4 _
+record-positive (dayEnd c) = form-positive 5 _
+
+-- so it begins before the end of the bytes
+pub read-inside : (bytes : List ℕ) (at : ℕ) (r : Read Event) → All IsByte bytes → recordAt bytes at ≡ gives r → at < length bytes
+read-inside bytes at r h e = let s = record-unique bytes at r h e .stands in omega (arith, s .ends, s .inside, record-positive (r .value))
+
+-- Reports one after another
 
 -- a report takes a byte or more
 report-positive : (r : Report) → 1 ≤ length (reportBytes r)
@@ -226,7 +241,23 @@ report-positive (repriced i p s) = form-positive 4 _
 report-positive restrictionStarts = form-positive 5 _
 report-positive (dayEnded phase) = form-positive 6 _
 
--- so there are no more reports than bytes
+-- and it never begins with 0, the mark of a refusal in a played day
+
+kind-first : (k : ℕ) (xs behind : List ℕ) → 1 ≤ k → k < 128 → eqb (getD (bytesOfAll (k ∷ xs) ++ behind) 0 1) 0 ≡ false
+unfolding bytesOfAll
+kind-first k xs behind h l = rw (bytes-last k l) (ne-eqb k 0 (λ z. omega (arith, z, h)))
+
+pub reports-first : (rs : List Report) → eqb (getD (reportsBytes rs) 0 1) 0 ≡ false
+unfolding reportsBytes reportBytes
+reports-first [] = refl
+reports-first (accepted i s p ∷ rs) = kind-first 1 _ _ (omega arith) (omega arith)
+reports-first (executed x ∷ rs) = kind-first 2 _ _ (omega arith) (omega arith)
+reports-first (cancelled i q cause ∷ rs) = kind-first 3 _ _ (omega arith) (omega arith)
+reports-first (repriced i p s ∷ rs) = kind-first 4 _ _ (omega arith) (omega arith)
+reports-first (restrictionStarts ∷ rs) = kind-first 5 _ _ (omega arith) (omega arith)
+reports-first (dayEnded phase ∷ rs) = kind-first 6 _ _ (omega arith) (omega arith)
+
+-- there are no more reports than bytes
 reports-count : (rs : List Report) → length rs ≤ length (reportsBytes rs)
 unfolding reportsBytes
 reports-count [] = omega arith

@@ -24,12 +24,13 @@ use Rattle.engine.specs.rules.Refusals.{leastBuffer, refusal}
 use Rattle.engine.specs.rules.Run.{Step, stepUnless, step, Call, Run, run}
 use Rattle.engine.specs.rules.Records.{recordNumbers, reportsBytes}
 use Rattle.engine.specs.claims.RoundTrips.{Word, ReportWords}
-use Rattle.engine.specs.rules.Layout.{venueOf, stepIn}
+use Rattle.engine.specs.rules.Layout.{venueOf, soundWords, stepIn}
 use Rattle.engine.specs.rules.Answers.{countOf, bufferAfter}
 use Rattle.engine.specs.claims.Calls.{Applied, AppliedCall, Chain, none, more, LawfulCalls, withReports, readOf, answeredOf, Demand3OfCalls, NoCallGets16, bytesGot, reportsGot, LongEnough, SameForBoth, EqualReports}
+use Rattle.engine.proofs.refinement.RefuseLaws.{words-book, words-sound}
 use Rattle.engine.proofs.refinement.RefusalLaws.{NotRefused, Unless, refusal-known}
 use Rattle.engine.proofs.refinement.OpeningLaws.{opening-gives, opened-book, opened-venue, step-in}
-use Rattle.engine.proofs.demand3.ReachedLaws.{reached-is-sound}
+use Rattle.engine.proofs.demand3.ReachedLaws.{reached-is-sound, sound-refused}
 use Rattle.engine.proofs.bytes.ReportWordLaws.{reports-words}
 use Rattle.engine.proofs.bytes.BoundLaws.{reports-room}
 use Rattle.engine.proofs.bytes.RecordLaws.{all-reports-read-back}
@@ -100,6 +101,16 @@ chain-run {w} {w′} t i (more {w₁ = w₁} {c = c} {cs = cs} h a r) =
     let rest : map answeredOf cs ≡ map some (run (s .venue) (map callOf cs) .answered) = g .readable in
     record { layout = g .layout; venue = g .venue; readable = cc }
 
+-- no call on sound words answers 16
+
+counted : (x : Outcome (List Report)) → countOf x ≡ refuses 16 → x ≡ refuses 16
+counted (gives rs) y = let q : _≡_ {A = ℕ} 0 1 = cc in absurd (omega arith)
+counted (refuses n) y = let q : n ≡ 16 = cc in ap refuses q
+
+pub applied-not-16 : {w w′ b b′ : List ℕ} {e : Event} {answer : Outcome ℕ} → T (soundWords w) → Applied w e b answer w′ b′ → answer ≡ refuses 16 → ⊥
+applied-not-16 {w} {b = b} {e = e} t a z =
+    sound-refused (venueOf w) e (length b) 16 (words-sound w t) (counted _ (sym (rw (step-in w e (length b) (words-book w t)) at (a .answers)) ∙ z)) .0 refl
+
 -- from words that mean a fresh venue
 module _ (close : ℕ) (t : T (legal close)) {w₀ : List ℕ} (u : T (isBook w₀)) (f : venueOf w₀ ≡ opened close) where
   fresh-run : {cs : List AppliedCall} {w : List ℕ} → Chain w₀ cs w → IsRun cs w (run (opened close) (map callOf cs))
@@ -121,10 +132,6 @@ module _ (close : ℕ) (t : T (legal close)) {w₀ : List ℕ} (u : T (isBook w�
   no-16-from cs w c e b answer w′ b′ a z =
       let r = fresh-run c in
       reached-is-sound close (opened close) (opening-gives close t) (map callOf cs) e (length b) (counted _ (sym (rw (step-in w e (length b) (r .layout), r .venue) at (a .answers)) ∙ z))
-    where
-      counted : (x : Outcome (List Report)) → countOf x ≡ refuses 16 → x ≡ refuses 16
-      counted (gives rs) y = let q : _≡_ {A = ℕ} 0 1 = cc in absurd (omega arith)
-      counted (refuses n) y = let q : n ≡ 16 = cc in ap refuses q
 
 pub demand3-of-calls : Demand3OfCalls
 demand3-of-calls close t = demand3-from close t (opened-book close t) (opened-venue close t)

@@ -52,14 +52,14 @@ reached-sound close v e cs = let o = opening-known close v e in rw (o .fresh) (r
 
 -- refusal 16 is given only where a condition is broken; every other is a number from 1 on, of one byte
 
-abbrev pub Not16 : ℕ → Type 0
-Not16 n = (n ≡ 16 → ⊥) × (1 ≤ n) × (n < 128)
+abbrev pub OfSound : ℕ → Type 0
+OfSound n = (n ≡ 16 → ⊥) × (1 ≤ n) × (n < 128)
 
 abbrev Refused : Option ℕ → Type 0
 Refused none = Unit {0}
-Refused (some n) = Not16 n
+Refused (some n) = OfSound n
 
-refuseUnless-not : (b : Bool) (n : ℕ) (later : Option ℕ) → (T (not b) → Not16 n) → Refused later → Refused (refuseUnless b n later)
+refuseUnless-not : (b : Bool) (n : ℕ) (later : Option ℕ) → (T (not b) → OfSound n) → Refused later → Refused (refuseUnless b n later)
 unfolding refuseUnless
 refuseUnless-not true n later h k = k
 refuseUnless-not false n later h k = h tt
@@ -78,12 +78,12 @@ unfolding refusal
 refusal-not v e n s =
     refuseUnless-not _ _ _ (λ t. absurd (T-not (sound v) t s)) (refuseUnless-not _ _ _ (λ t. (λ z. omega arith, omega arith, omega arith)) (refuseUnless-not _ _ _ (λ t. (λ z. omega arith, omega arith, omega arith)) (refusalOfKind-not v e)))
 
-answer-not : (x : Option ℕ) (v : Venue) (e : Event) (n : ℕ) → Refused x → (stepUnless x v e) .answer ≡ refuses n → Not16 n
+answer-not : (x : Option ℕ) (v : Venue) (e : Event) (n : ℕ) → Refused x → (stepUnless x v e) .answer ≡ refuses n → OfSound n
 unfolding stepUnless
 answer-not none v e n h z = let y : _≡_ {A = ℕ} 0 1 = cc in absurd (omega arith)
-answer-not (some k) v e n h z = let y : k ≡ n = cc in subst Not16 y h
+answer-not (some k) v e n h z = let y : k ≡ n = cc in subst OfSound y h
 
-pub sound-refused : (v : Venue) (e : Event) (buffer n : ℕ) → T (sound v) → step v e buffer .answer ≡ refuses n → Not16 n
+pub sound-refused : (v : Venue) (e : Event) (buffer n : ℕ) → T (sound v) → step v e buffer .answer ≡ refuses n → OfSound n
 unfolding step
 sound-refused v e buffer n s = answer-not _ v e n (refusal-not v e buffer s)
 

@@ -6,11 +6,11 @@ use mathlib.Core.Path.{_≡_, refl, ap, subst, _∙_}
 use mathlib.Core.Bool.{Bool, true, false}
 use mathlib.Core.Option.{Option, none, some}
 use mathlib.Core.List.{List}
-use lib.Dec.{T, leb→le}
+use lib.Dec.{T, leb, ltb, leb→le}
 use lib.ListN.{length}
 use borrow.Author.Tests.{le-leb, lt-leb, lt-ltb, le-ltb}
 use Rattle.numbers.specs.Answers.{Outcome, gives, refuses}
-use Rattle.numbers.proofs.TestLaws.{by-test, T-true, T-false, and-yes, and-no, and-T, T-and}
+use Rattle.numbers.proofs.TestLaws.{by-test, T-true, T-false, and-yes, and-no}
 use Rattle.book.specs.rules.Words.{isBook}
 use Rattle.book.proofs.refinement.WordLaws.{book-isBook}
 use Rattle.engine.specs.declared.Event.{Event}
@@ -20,14 +20,23 @@ use Rattle.engine.specs.rules.Sound.{mostEvents, sound}
 use Rattle.engine.specs.rules.Run.{Step, stepUnless, step}
 use Rattle.engine.specs.rules.Records.{reportsBytes}
 use Rattle.engine.specs.claims.RoundTrips.{Word}
-use Rattle.engine.specs.steps.Memory.{refusalIn, MayJudge, Room, effectIn, MayAccept, Accepts}
+use Rattle.engine.specs.steps.Memory.{MayJudge, Room, effectIn, MayAccept, Accepts}
 use Rattle.engine.specs.rules.Layout.{venueOf, soundWords, stepIn}
 use Rattle.engine.specs.claims.Calls.{Applied}
+use Rattle.engine.proofs.refinement.MemoryLaws.{spare-same}
 use Rattle.engine.proofs.refinement.RefusalLaws.{Allowed, NotRefused, Unless, refusalOfKind-known}
-use Rattle.engine.proofs.refinement.RefuseLaws.{refuse-yes, refuse-no, words-ordered, words-sound}
+use Rattle.engine.proofs.refinement.RefuseLaws.{refuse-yes, refuse-no, words-ordered, words-book, words-sound, sound-words}
 use Rattle.engine.proofs.refinement.OpeningLaws.{step-in}
 use Rattle.engine.proofs.demand3.ReachedLaws.{step-sound}
 use Rattle.engine.proofs.bytes.BoundLaws.{reports-room}
+
+-- the refusals of an event, for any words; n is the length of the lent report buffer
+unfoldable pub refusalIn : List ℕ → Event → ℕ → Option ℕ
+refusalIn w e n =
+    refuseUnless (soundWords w) 16
+    (refuseUnless (leb leastBuffer n) 1
+    (refuseUnless (ltb (venueOf w .acceptedEvents) mostEvents) 2
+    (refusalOfKind (venueOf w) e)))
 
 -- the step of words is what the refusals over them say
 pub step-by-refusal : (w : List ℕ) (e : Event) (n : ℕ) → stepIn w e n ≡ stepUnless (refusalIn w e n) (venueOf w) e
@@ -74,7 +83,7 @@ applied-refused w e b k h =
       buffer = rw (step-by-refusal w e (length b), h);
       venue = rw (step-by-refusal w e (length b), h);
       layout = λ t. t;
-      same = record { size = refl; spare = λ j a c. refl; behind = λ j a. refl };
+      same = spare-same w;
       refused = λ n x. refl;
     }
 
@@ -110,11 +119,9 @@ module _ {w b : List ℕ} {e : Event} where
 
   -- the words after a call on sound words are sound
   pub applied-sound : {w′ b′ : List ℕ} {o : Outcome ℕ} → T (soundWords w) → Applied w e b o w′ b′ → T (soundWords w′)
-  unfolding soundWords
   applied-sound {w′} {b′} t a =
-      let i = and-T (isBook w) (sound (venueOf w)) t in
-      let v : venueOf w′ ≡ step (venueOf w) e (length b) .venue = a .venue ∙ ap (λ (s : Step). s .venue) (step-in w e (length b) (i .0)) in
-      T-and (isBook w′) (sound (venueOf w′)) (a .layout (i .0)) (rw v (step-sound (venueOf w) e (length b) (i .1)))
+      let v : venueOf w′ ≡ step (venueOf w) e (length b) .venue = a .venue ∙ ap (λ (s : Step). s .venue) (step-in w e (length b) (words-book w t)) in
+      sound-words w′ (a .layout (words-book w t)) (rw v (step-sound (venueOf w) e (length b) (words-sound w t)))
 
 -- then the kind's own
 module _ {w b : List ℕ} (e : Event) (j : MayJudge w b) where

@@ -1,7 +1,7 @@
 -- What writing header words and taking orders out does to the venue of the words. Assumes nothing.
 use Prim.Native.Nat.{ℕ, _+_, _<_}
 use native.Mathlib.Omega.{arith}
-use mathlib.Core.Path.{_≡_, sym, ap, _∙_, subst}
+use mathlib.Core.Path.{_≡_, refl, sym, ap, _∙_, subst}
 use mathlib.Core.List.{List}
 use lib.Dec.{T, eqb, eqb→eq}
 use lib.ListN.{length, getD, length-set}
@@ -15,6 +15,7 @@ use Rattle.book.specs.steps.BookSteps.{Holds, HeaderSet}
 use Rattle.engine.specs.declared.Market.{Market}
 use Rattle.engine.specs.rules.Venue.{Venue}
 use Rattle.engine.specs.rules.Reports.{Report}
+use Rattle.engine.specs.claims.Calls.{SameSpare}
 use Rattle.engine.specs.steps.Memory.{Ordered, Becomes, Does, inMarket, withOrders, finished}
 use Rattle.engine.specs.rules.Layout.{venueOf}
 
@@ -32,18 +33,15 @@ venue-as w v a b c d e f g = λ i.
 
 -- one step after another
 
+pub spare-same : (w : List ℕ) → SameSpare w w
+spare-same w = record { size = refl; spare = λ j h k. refl; behind = λ j h. refl }
+
+pub spare-then : {w w₁ w′ : List ℕ} → SameSpare w w₁ → SameSpare w₁ w′ → SameSpare w w′
+spare-then a b =
+    record { size = b .size ∙ a .size; spare = λ j l h. b .spare j l h ∙ a .spare j l h; behind = λ j h. b .behind j h ∙ a .behind j h }
+
 pub becomes-then : {w w₁ w′ : List ℕ} {u v : Venue} → Becomes w w₁ u → Becomes w₁ w′ v → Becomes w w′ v
-becomes-then a b =
-    record {
-      ordered = b .ordered;
-      venue = b .venue;
-      same =
-          record {
-            size = b .same .size ∙ a .same .size;
-            spare = λ j l h. b .same .spare j l h ∙ a .same .spare j l h;
-            behind = λ j h. b .same .behind j h ∙ a .same .behind j h;
-          };
-    }
+becomes-then a b = record { ordered = b .ordered; venue = b .venue; same = spare-then (a .same) (b .same) }
 
 pub becomes-as : {w w′ : List ℕ} {u v : Venue} → Becomes w w′ u → u ≡ v → Becomes w w′ v
 becomes-as a e = record { ordered = a .ordered; venue = a .venue ∙ e; same = a .same }

@@ -51,9 +51,17 @@ module _ (w : List ℕ) where
   unfolding venueOf
   words-ordered t = let a = words-each t in record { book = isBook-book w (a .0); rises = a .1 .1 .0 }
 
+  pub words-book : T (soundWords w) → T (isBook w)
+  unfolding soundWords
+  words-book t = and-T (isBook w) (sound (venueOf w)) t .0
+
   pub words-sound : T (soundWords w) → T (sound (venueOf w))
   unfolding soundWords
   words-sound t = and-T (isBook w) (sound (venueOf w)) t .1
+
+  pub sound-words : T (isBook w) → T (sound (venueOf w)) → T (soundWords w)
+  unfolding soundWords
+  sound-words t s = T-and (isBook w) (sound (venueOf w)) t s
 
   -- the header first, then the orders in one walk
   pub header-first : soundWords w ≡ (conj (headerConditions (venueOf w)) && BookTests)

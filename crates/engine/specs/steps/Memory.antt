@@ -22,14 +22,6 @@ use Rattle.engine.specs.rules.Records.{reportsBytes}
 use Rattle.engine.specs.rules.Layout.{venueOf, soundWords}
 use Rattle.engine.specs.claims.Calls.{SameSpare}
 
--- the refusals of an event, for any words; n is the length of the lent report buffer
-unfoldable pub refusalIn : List ℕ → Event → ℕ → Option ℕ
-refusalIn w e n =
-    refuseUnless (soundWords w) 16
-    (refuseUnless (leb leastBuffer n) 1
-    (refuseUnless (ltb (venueOf w .acceptedEvents) mostEvents) 2
-    (refusalOfKind (venueOf w) e)))
-
 -- words and a report buffer for which 16, 1 and 2 aren't given, so that only the refusals of the kind are left
 pub record MayJudge (w b : List ℕ) : Type 0 where
   pub sound : T (soundWords w)

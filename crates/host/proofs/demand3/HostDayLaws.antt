@@ -4,61 +4,47 @@ use native.Mathlib.Omega.{arith}
 use mathlib.Core.Path.{_≡_, refl, sym, ap, subst, _∙_}
 use mathlib.Core.Bool.{Bool, true, false}
 use mathlib.Core.Logic.{_⊎_, inl, inr}
-use mathlib.Core.List.{List, [], _∷_, _++_, map, map-append, append-nil, append-assoc}
+use mathlib.Core.List.{List, [], _∷_, _++_, map, map-append, append-nil}
 use lib.Dec.{T, eqb}
-use lib.ListN.{length, getD, take, drop, length-append, length-replicate}
-use lib.Seq.{sets, sets-eq, take-append-seam, drop-append-le}
+use lib.ListN.{length, getD, take, drop, length-replicate}
+use lib.Seq.{sets-eq, take-append-seam}
 use Rattle.numbers.specs.Tests.{pick, All}
 use Rattle.numbers.specs.Answers.{Outcome, gives, refuses, Read}
 use Rattle.numbers.specs.SevenBit.{IsByte, bytesOfAll, Stands, overwrite}
-use Rattle.numbers.proofs.TestLaws.{pick-yes, T-false, ne→T, eq→T, and-T, T-and}
-use Rattle.numbers.proofs.ByteLaws.{bytes-last, numbers-bytes}
-use Rattle.numbers.proofs.PlaceLaws.{stands-first, stands-front, stands-behind}
-use Rattle.book.specs.rules.Words.{isBook}
+use Rattle.numbers.proofs.TestLaws.{pick-yes, T-false, ne→T, eq→T}
+use Rattle.numbers.proofs.ByteLaws.{two-bytes, numbers-bytes}
+use Rattle.numbers.proofs.PlaceLaws.{stands-first, stands-front, stands-behind, stands-longer}
 use Rattle.engine.specs.declared.Event.{Event}
-use Rattle.engine.specs.rules.Reports.{Report, accepted, executed, cancelled, repriced, restrictionStarts, dayEnded}
+use Rattle.engine.specs.rules.Reports.{Report}
 use Rattle.engine.specs.rules.Venue.{Venue, opened}
 use Rattle.engine.specs.rules.Sound.{sound}
 use Rattle.engine.specs.rules.Refusals.{leastBuffer}
-use Rattle.engine.specs.rules.Run.{Step, step, Answered, Run, run}
-use Rattle.engine.specs.rules.Records.{recordNumbers, recordBytes, reportBytes, reportsBytes, recordAt}
+use Rattle.engine.specs.rules.Run.{Step, step, Answered, run}
+use Rattle.engine.specs.rules.Records.{recordNumbers, recordBytes, reportsBytes, recordAt}
 use Rattle.engine.specs.rules.Answers.{countOf, bufferAfter}
 use Rattle.engine.specs.rules.Layout.{venueOf, soundWords}
 use Rattle.engine.specs.claims.RoundTrips.{Word}
 use Rattle.engine.specs.claims.Calls.{Applied}
-use Rattle.engine.proofs.bytes.RecordLaws.{given, not-given, record-read-back, record-unique}
+use Rattle.engine.proofs.bytes.RecordLaws.{not-given, record-read-back, record-unique, read-inside, reports-first}
+use Rattle.engine.proofs.refinement.RefuseLaws.{words-book, words-sound, sound-words}
 use Rattle.engine.proofs.refinement.OpeningLaws.{opening-gives, step-in}
 use Rattle.engine.proofs.refinement.ApplyLaws.{applied-sound}
 use Rattle.engine.proofs.demand3.ReachedLaws.{step-sound, reached-sound, sound-refused}
+use Rattle.engine.proofs.demand3.CallLaws.{applied-not-16}
 use Rattle.engine.proofs.demand3.SoundLaws.{venue-sound}
 use Rattle.days.specs.Days.{allPlayed, answerBytes, Stopped, playOn, dayStarts, played}
 use Rattle.days.specs.DayCalls.{answerIn, Stepped, Reads, none as noneRead, more as moreRead, Steps, still, then}
 use Rattle.days.specs.DayRuns.{callOf, answeredBytes, endsFrom}
-use Rattle.days.proofs.DayLaws.{broken-day, refusal-bytes}
-use Rattle.days.proofs.DayRunLaws.{played-one-by-one, run-then, StoppedAt, stopped-at, reads-then, reads-same, NoneAt, reads-all, read-inside}
+use Rattle.days.proofs.DayLaws.{broken-day}
+use Rattle.days.proofs.DayRunLaws.{played-one-by-one, run-then, StoppedAt, stopped-at, reads-then, reads-same, NoneAt, reads-all}
 use Rattle.host.specs.rules.Host.{hostAnswer, endOrZero}
 use Rattle.host.specs.claims.Calls.{HostOpened, RecordApplied}
-use Rattle.host.specs.claims.HostCalls.{ApplyCall, ApplyChain, none, more, appliedCall, eventCalls}
-use Rattle.host.specs.claims.HostDays.{PlayCall, PlayedBy, told, ownBuffer, callTold, cut, callsTold, callsPlayed, HostCall, apply, play, answerOf, HostChain, none as noCalls, applied, played as day, oneByOne, DaysOneByOne, Demand3OfDays, NoDayGets16, EqualDayReports, Pieces, last, more as moreThen, piecesPlayed, PiecesAgree}
+use Rattle.host.specs.claims.HostCalls.{ApplyCall, ApplyChain, none, more}
+use Rattle.host.specs.claims.HostDays.{PlayCall, PlayedBy, told, ownBuffer, callTold, cut, callsTold, callsPlayed, HostCall, answerOf, HostChain, none as noCalls, applied, played as day, oneByOne, DaysOneByOne, Demand3OfDays, NoDayGets16, EqualDayReports, Pieces, last, more as moreThen, piecesPlayed, PiecesAgree}
 use Rattle.host.proofs.refinement.HostLaws.{outcome-told, event-applied, apply-read, opened-fresh}
 use Rattle.host.proofs.demand3.HostCallLaws.{demand3-of-hosts, no-host-gets-16, equal-host-reports}
 
 -- the bytes of an event tell its answer
-
-kind-first : (k : ℕ) (fields behind : List ℕ) → 1 ≤ k → k < 128 → eqb (getD (bytesOfAll (k ∷ fields) ++ behind) 0 1) 0 ≡ false
-unfolding bytesOfAll
-kind-first k fields behind h l = rw (bytes-last k l) (T-false (eqb k 0) (ne→T k 0 (λ z. omega (arith, z, h))))
-
--- no report begins with 0
-reports-first : (rs : List Report) → eqb (getD (reportsBytes rs) 0 1) 0 ≡ false
-unfolding reportsBytes reportBytes
-reports-first [] = refl
-reports-first (accepted i s p ∷ rs) = kind-first 1 _ _ (omega arith) (omega arith)
-reports-first (executed x ∷ rs) = kind-first 2 _ _ (omega arith) (omega arith)
-reports-first (cancelled i q cause ∷ rs) = kind-first 3 _ _ (omega arith) (omega arith)
-reports-first (repriced i p s ∷ rs) = kind-first 4 _ _ (omega arith) (omega arith)
-reports-first (restrictionStarts ∷ rs) = kind-first 5 _ _ (omega arith) (omega arith)
-reports-first (dayEnded phase ∷ rs) = kind-first 6 _ _ (omega arith) (omega arith)
 
 abbrev toldOf : Outcome (List Report) → Outcome (List ℕ)
 toldOf (gives rs) = gives (reportsBytes rs)
@@ -71,7 +57,7 @@ Small x = (n : ℕ) → x ≡ refuses n → (1 ≤ n) × (n < 128)
 told-answer : (x : Outcome (List Report)) → Small x → told (answerBytes x) ≡ toldOf x
 unfolding told pick
 told-answer (gives rs) h = rw (reports-first rs)
-told-answer (refuses n) h = rw (refusal-bytes n (h n refl .1))
+told-answer (refuses n) h = rw (two-bytes 0 n (omega arith) (h n refl .1))
 
 step-small : (v : Venue) (e : Event) → T (sound v) → Small ((step v e leastBuffer) .answer)
 step-small v e t n q = let k = sound-refused v e leastBuffer n t q in (k .1, k .2)
@@ -117,13 +103,9 @@ unfolding recordBytes
 link {e = e} h (gives rs) k f a later = more (numbers-bytes (recordNumbers e)) (apply-read (recordBytes e) (record-reads e h) (event-applied (gives (length (reportsBytes rs))) f refl a)) later
 link {e = e} h (refuses n) k f a later = more (numbers-bytes (recordNumbers e)) (apply-read (recordBytes e) (record-reads e h) (event-applied (refuses n) (k n refl .0) refl a)) later
 
-sound-parts : (w : List ℕ) → T (soundWords w) → T (isBook w) × T (sound (venueOf w))
-unfolding soundWords
-sound-parts w t = and-T (isBook w) (sound (venueOf w)) t
-
 stepped-venue : {w w₁ : List ℕ} {e : Event} → T (soundWords w) → Stepped w e w₁ → venueOf w₁ ≡ (step (venueOf w) e leastBuffer) .venue
 stepped-venue {w} {w₁} {e} t s =
-    s .applies ownBuffer (omega (arith, own-long)) .venue ∙ ap (λ (z : Step). z .venue) (step-in w e (length ownBuffer) (sound-parts w t .0) ∙ ap (step (venueOf w) e) own-long)
+    s .applies ownBuffer (omega (arith, own-long)) .venue ∙ ap (λ (z : Step). z .venue) (step-in w e (length ownBuffer) (words-book w t) ∙ ap (step (venueOf w) e) own-long)
 
 steps-sound : {w w′ : List ℕ} {es : List Event} → T (soundWords w) → Steps w es w′ → T (soundWords w′)
 steps-sound t still = t
@@ -135,7 +117,7 @@ steps-chain t still = none
 steps-chain {w} {w′} t (then {w₁ = w₁} {e = e} {es = es} s p) =
     let a = s .applies ownBuffer (omega (arith, own-long)) in
     let later : ApplyChain w₁ (map dayCall (answeredOf ((step (venueOf w) e leastBuffer) .venue) es)) w′ = subst (λ (v : Venue). ApplyChain w₁ (map dayCall (answeredOf v es)) w′) (stepped-venue t s) (steps-chain (applied-sound t a) p) in
-    link (s .words) ((step (venueOf w) e leastBuffer) .answer) (step-small (venueOf w) e (sound-parts w t .1)) (s .fits) a later
+    link (s .words) ((step (venueOf w) e leastBuffer) .answer) (step-small (venueOf w) e (words-sound w t)) (s .fits) a later
 
 steps-venue : {w w′ : List ℕ} {es : List Event} → T (soundWords w) → Steps w es w′ → venueOf w′ ≡ (run (venueOf w) (map callOf es)) .venue
 unfolding run
@@ -190,7 +172,7 @@ module _ {w w′ : List ℕ} {c : PlayCall} (t : T (soundWords w)) (p : PlayedBy
         read = o .read;
         reads = rw progress-is (o .reads);
         steps = subst (λ (es : List Event). Steps w es w′) (same .0) (a .steps);
-        calls = rw (answer-not-16, progress-is, count, ends) (told-calls (p .bytes) (o .reads) (venueOf w) (sound-parts w t .1) (c .after) _ 0 _ stands);
+        calls = rw (answer-not-16, progress-is, count, ends) (told-calls (p .bytes) (o .reads) (venueOf w) (words-sound w t) (c .after) _ 0 _ stands);
       }
 
 -- words that are no venue: nothing is played
@@ -234,35 +216,23 @@ equal-day-reports close w v w₀ v₀ h k hs gs w′ v′ c d =
 same-refusal : {A : Type 0} {m n : ℕ} → _≡_ {A = Outcome A} (refuses m) (refuses n) → m ≡ n
 same-refusal z = cc
 
-counted : (x : Outcome (List Report)) → countOf x ≡ refuses 16 → x ≡ refuses 16
-counted (gives rs) y = absurd (not-given (sym y))
-counted (refuses n) y = ap refuses (same-refusal y)
-
-event-not-16 : {w w′ b b′ : List ℕ} {e : Event} {o : Outcome ℕ} → T (soundWords w) → Applied w e b o w′ b′ → o ≡ refuses 16 → ⊥
-event-not-16 {w} {b = b} {e = e} t a z =
-    let s = sound-parts w t in
-    sound-refused (venueOf w) e (length b) 16 (s .1) (counted _ (ap (λ (x : Step). countOf (x .answer)) (sym (step-in w e (length b) (s .0))) ∙ sym (a .answers) ∙ z)) .0 refl
-
-abbrev Not16 : HostCall → Type 0
-Not16 h = answerOf h ≡ hostAnswer (refuses 16) → ⊥
-
-not-16 : {w w′ : List ℕ} {hs : List HostCall} → T (soundWords w) → HostChain w hs w′ → All Not16 hs
+not-16 : {w w′ : List ℕ} {hs : List HostCall} → T (soundWords w) → HostChain w hs w′ → All (λ (h : HostCall). answerOf h ≡ hostAnswer (refuses 16) → ⊥) hs
 not-16 t noCalls = tt
 not-16 {w} t (applied {w₁ = w₁} {c = c} h a r) = let k = by-record (recordAt (c .bytes) 0) a in (k .0, not-16 (k .1) r)
   where
     by-record : (x : Outcome (Read Event)) → RecordApplied x w (c .lent) (c .answer) w₁ (c .after) → (c .answer ≡ hostAnswer (refuses 16) → ⊥) × T (soundWords w₁)
-    by-record (gives e) b = (λ z. event-not-16 t (b .applied) (outcome-told (refuses 16) (omega arith) z), applied-sound t (b .applied))
+    by-record (gives e) b = (λ z. applied-not-16 t (b .applied) (outcome-told (refuses 16) (omega arith) z), applied-sound t (b .applied))
     by-record (refuses n) b = (λ z. omega (arith, b .answers, b .range .1, z), rw (b .words) t)
 not-16 t (day p r) = (λ z. subst T (p .is .refused z) t, not-16 (p .is .done .sound t) r)
 
 opened-words-sound : {w w₀ : List ℕ} {close : ℕ} → HostOpened w close 0 w₀ → T (soundWords w₀)
-unfolding soundWords run
+unfolding run
 opened-words-sound {w₀ = w₀} {close = close} h =
     let f = opened-fresh h in
-    T-and (isBook w₀) (sound (venueOf w₀)) (f .layout) (rw (f .venue) (venue-sound (opened close) (reached-sound close (opened close) (opening-gives close (f .legal)) [])))
+    sound-words w₀ (f .layout) (rw (f .venue) (venue-sound (opened close) (reached-sound close (opened close) (opening-gives close (f .legal)) [])))
 
 pub no-day-gets-16 : NoDayGets16
-no-day-gets-16 w close w₀ h hs w′ c = not-16 (opened-words-sound h) c
+no-day-gets-16 w close w₀ h hs w′ c = (not-16 (opened-words-sound h) c, no-host-gets-16 w close w₀ h (oneByOne hs) w′ (calls c))
 
 -- a day in pieces
 
@@ -294,14 +264,6 @@ same-answer records at x y (inr p) (inr q) =
     omega (arith, p .answer, q .answer, n)
 
 -- what is read in a front of the records is read in all of them
-
-stands-longer : {b new : List ℕ} {at end : ℕ} (behind : List ℕ) → Stands b at new end → Stands (b ++ behind) at new end
-stands-longer {b} {new} {at} {end} behind s =
-    record {
-      ends = s .ends;
-      inside = omega (arith, s .inside, length-append b behind);
-      there = drop-append-le at b behind (omega (arith, s .ends, s .inside)) ∙ ap (λ (l : List ℕ). l ++ behind) (s .there) ∙ append-assoc new (drop end b) behind ∙ ap (λ (l : List ℕ). new ++ l) (sym (drop-append-le end b behind (s .inside)));
-    }
 
 reads-longer : {front : List ℕ} {at at′ : ℕ} {es : List Event} (behind : List ℕ) → All IsByte front → Reads front at es at′ → Reads (front ++ behind) at es at′
 reads-longer behind h noneRead = noneRead

@@ -5,7 +5,7 @@ use native.Mathlib.Omega.{arith}
 use native.Mathlib.Numerals.{add-one}
 use mathlib.Core.Path.{_≡_, refl, sym, ap, _∙_, subst}
 use mathlib.Core.Option.{Option, none, some}
-use mathlib.Core.List.{List, [], _∷_, _++_}
+use mathlib.Core.List.{List, _++_}
 use lib.Dec.{T, leb}
 use lib.ListN.{length, getD, take, drop, set, length-replicate}
 use lib.Seq.{length-take-le, take-suc, drop-cons, append-snoc, set-at}
@@ -29,7 +29,6 @@ use Rattle.engine.specs.rules.Run.{Step, stepUnless}
 use Rattle.engine.specs.rules.Records.{recordNumbers, recordAt}
 use Rattle.engine.specs.claims.RoundTrips.{Word}
 use Rattle.records.specs.RecordAnswers.{readRefusalNumber}
-use Rattle.engine.specs.steps.Memory.{refusalIn}
 use Rattle.engine.specs.rules.Layout.{venueOf, openedWords}
 use Rattle.engine.specs.rules.Answers.{refusalNumber, outcomeOfAnswer, countOf}
 use Rattle.engine.specs.claims.Calls.{Opens, Applied}
@@ -37,7 +36,7 @@ use Rattle.host.specs.rules.Host.{hostAnswer, outcomeOf, openCount, host
 use Rattle.host.specs.claims.Calls.{HostOpened, AnswerFits, AnswerTold, EventApplied, HostApplied}
 use Rattle.engine.proofs.refinement.OpeningLaws.{fresh-length, opened-book-with, opened-venue-with}
 use Rattle.engine.proofs.refinement.AnswerLaws.{refusal-range}
-use Rattle.engine.proofs.refinement.ApplyLaws.{step-by-refusal, not-refused}
+use Rattle.engine.proofs.refinement.ApplyLaws.{refusalIn, step-by-refusal, not-refused}
 use Rattle.engine.proofs.bytes.BoundLaws.{reports-room}
 use Rattle.engine.proofs.demand3.CallLaws.{event-lastId}
 

@@ -9,7 +9,6 @@ use lib.ListN.{length, getD, take, drop, replicate}
 use Rattle.numbers.specs.Tests.{pick, All}
 use Rattle.numbers.specs.Answers.{Outcome, gives, refuses}
 use Rattle.numbers.specs.SevenBit.{IsByte, overwrite}
-use Rattle.engine.specs.declared.Event.{Event}
 use Rattle.engine.specs.rules.Refusals.{leastBuffer}
 use Rattle.engine.specs.rules.Records.{recordAt}
 use Rattle.engine.specs.rules.Layout.{venueOf, soundWords}
@@ -57,13 +56,13 @@ callTold bytes (refuses n) = record { bytes = bytes; lent = ownBuffer; answer = 
 abbrev pub cut : ℕ → ℕ → List ℕ → List ℕ
 cut from to bytes = take (to - from) (drop from bytes)
 
--- the first k records from the offset at on; the bytes of the first event stand in the buffer b from the offset from on, up to the first of the ends
+-- the first k records from the offset at on; the bytes of the first event stand in the buffer b from start up to the first of the ends
 unfoldable pub callsTold : ℕ → List ℕ → ℕ → List ℕ → ℕ → List ℕ → List ApplyCall
-callsTold zero records at b from ends = []
-callsTold (suc k) records at b from ends =
+callsTold zero records at b start ends = []
+callsTold (suc k) records at b start ends =
     let next : ℕ = endOrZero (recordAt records at) in
     let end : ℕ = getD ends 0 0 in
-    callTold (cut at next records) (told (cut from end b)) ∷ callsTold k records next b end (drop 1 ends)
+    callTold (cut at next records) (told (cut start end b)) ∷ callsTold k records next b end (drop 1 ends)
 
 -- the events of a call, as many as its progress says; none where it is refused with 16
 unfoldable pub callsPlayed : PlayCall → List ApplyCall
@@ -100,15 +99,16 @@ Demand3OfDays =
     (w : List ℕ) (close : ℕ) (w₀ : List ℕ) → HostOpened w close 0 w₀ →
     (hs : List HostCall) (w′ : List ℕ) → HostChain w₀ hs w′ → LawfulCalls close (map appliedCall (eventCalls (oneByOne hs))) w′
 
--- "No venue reached from open gets 16": neither by an event nor by a day
 abbrev pub answerOf : HostCall → ℕ
 answerOf (apply c) = c.answer
 answerOf (play c) = c.answer
 
+-- "No venue reached from open gets 16": no call answers it, and no event of a played day is told it
 abbrev pub NoDayGets16 : Type 0
 NoDayGets16 =
     (w : List ℕ) (close : ℕ) (w₀ : List ℕ) → HostOpened w close 0 w₀ →
-    (hs : List HostCall) (w′ : List ℕ) → HostChain w₀ hs w′ → All (λ (h : HostCall). answerOf h ≡ hostAnswer (refuses 16) → ⊥) hs
+    (hs : List HostCall) (w′ : List ℕ) → HostChain w₀ hs w′ →
+    All (λ (h : HostCall). answerOf h ≡ hostAnswer (refuses 16) → ⊥) hs × All (λ (c : ApplyCall). c .answer ≡ hostAnswer (refuses 16) → ⊥) (oneByOne hs)
 
 -- equal events, equal reports, however they are played
 abbrev pub EqualDayReports : Type 0
@@ -122,17 +122,17 @@ EqualDayReports =
 -- A day in pieces
 
 -- calls one after another from the words w to the words w′: the first from the offset from on, each later one from where the one before it stopped.
--- Each is lent the records or a front of them, as a host does that reads them bit by bit, and the last all of them; it stopped at the offset at with
+-- Each is lent the records or a front of them, as a host does that reads them in parts, and the last all of them; it stopped at the offset at with
 -- the answer x, and not for want of room: at the end of the records, or at a record that can't be read
 pub data Pieces (records : List ℕ) : List ℕ → ℕ → List PlayCall → List ℕ → ℕ → ℕ → Type 0 where
-  last : {w w′ : List ℕ} {from : ℕ} {c : PlayCall} → PlayedBy w c w′ → c.records ≡ records → c.from ≡ from → (c.answer ≡ allPlayed) ⊎ (65_536 ≤ c.answer) → Pieces records w from (c ∷ []) w′ (getD (c .progress) 1 0) (c .answer)
+  last : {w w′ : List ℕ} {from : ℕ} {c : PlayCall} → PlayedBy w c w′ → c.records ≡ records → c.from ≡ from → (c.answer ≡ hostAnswer (gives allPlayed)) ⊎ (65_536 ≤ c.answer) → Pieces records w from (c ∷ []) w′ (getD (c .progress) 1 0) (c .answer)
   more : {w w₁ w′ : List ℕ} {from at x : ℕ} {c : PlayCall} {cs : List PlayCall} (behind : List ℕ) → PlayedBy w c w₁ → (c .records) ++ behind ≡ records → c.from ≡ from → Pieces records w₁ (getD (c .progress) 1 0) cs w′ at x → Pieces records w from (c ∷ cs) w′ at x
 
 unfoldable pub piecesPlayed : List PlayCall → List ApplyCall
 piecesPlayed [] = []
 piecesPlayed (c ∷ cs) = callsPlayed c ++ piecesPlayed cs
 
--- however a day is cut, in one piece or in many: the same events with the same record bytes, numbers and report bytes, the same end, the same venue
+-- however a day is cut, in one piece or in many (of a host that moves the rest of the records to the front, EqualDayReports says it): the same events with the same record bytes, numbers and report bytes, the same end, the same venue
 pub record SameDay (cs ds : List PlayCall) (w v : List ℕ) (a b x y : ℕ) : Type 0 where
   pub events : piecesPlayed cs ≡ piecesPlayed ds
   pub venue : venueOf w ≡ venueOf v

@@ -29,9 +29,6 @@ mul-result c = omega (arith, c .refusal-number .ensures, read-refusal-range (c .
 enum-told-4 : tie.Need-enum-told-4
 enum-told-4 c = search needs
 
-mul-result-2 : tie.Need-mul-result-2
-mul-result-2 c = search needs
-
 returns : tie.Need-returns
 returns c = search needs
 
@@ -58,7 +55,6 @@ stop-number-spec =
     refusal-number-requires
     mul-result
     enum-told-4
-    mul-result-2
     returns
     returns-2
     returns-3
