@@ -9,8 +9,9 @@
 extern "C" {
 #endif
 
-/* A run of words, bytes, ends or order records is a pointer and a length, counted in words, bytes, ends or records. Nobody else writes it during the call, and a run that the call
-   writes shares nothing with another. The pointer is never NULL, also where the length is 0. */
+/* A run of words, bytes, ends or order records is a pointer and a length, counted in words, bytes, ends or records. Nobody else writes it during
+   the call, and a run that the call writes shares nothing with another. The pointer is never NULL, also where the length is 0. The same holds of a
+   record that a call writes. */
 
 /* The words of a venue. A longer run is a venue with further words behind it, which keep their content. Between the calls the words are the
    host's to copy and to store, and nobody's to change. */
@@ -26,7 +27,7 @@ extern "C" {
 #define VENUE_ORDERS 256
 
 /* venue_open, venue_apply, venue_copy_out and venue_watch answer refusal * 65,536 + count: of bytes or of records, 0 where there is nothing to
-   count. Refusal 0 is none; a refusal has the count 0. */
+   count. Refusal 0 is none; a refusal has the count 0. venue_play answers in the same way, with the reason why it stopped in place of a count. */
 static inline uint32_t venue_refusal(uint32_t answer)
 {
     return answer / 65536;
@@ -51,7 +52,8 @@ uint32_t venue_open(uint32_t *words, size_t words_length, uint32_t close);
    10  a number of the record is bad: a tenth byte above 1, or a last group 0 after another
    11  the kind isn't 1 to 5
    12  a field is above 4,294,967,295
-   16  the words aren't a venue. Those that venue_open made one stay one through every call of venue_apply, whatever it answers
+   16  the words aren't a venue. Those that venue_open made one stay one through every call of venue_apply and
+       venue_play, whatever it answers
     1  the buffer has fewer than VENUE_REPORT_BYTES bytes
     2  the venue has accepted 16,777,215 events, the most it takes
     3  a price, a bid or a close that isn't legal
@@ -65,29 +67,30 @@ uint32_t venue_apply(uint32_t *words, size_t words_length, const uint8_t *record
 
 /* How far venue_play came. */
 struct venue_progress {
-    uint64_t events; /* the events played in the call, as many ends were written */
-    uint64_t at;     /* the offset reached in the records: that of the next record */
+    uint64_t events; /* the events played in the call; as many ends were written */
+    uint64_t at;     /* the offset behind the last record played; from, where none was played */
     uint64_t bytes;  /* the bytes written to the report buffer */
 };
 
-/* Why venue_play stopped, where its answer is no refusal. */
+/* Why venue_play stopped, where nothing is refused. */
 #define VENUE_ALL_PLAYED 0   /* the offset is at or past the end of the records */
 #define VENUE_ENDS_FULL 1    /* no place is left in ends */
 #define VENUE_REPORTS_FULL 2 /* fewer than VENUE_REPORT_BYTES bytes are left for reports */
 
 /* Plays the event records of a run one after another, from an offset on, each as venue_apply does. The bytes of the events stand one after another
-   at the front of the report buffer: of an accepted event its reports, which may be none, of a refused one 00 n, n being its refusal, 2 to 8. No report
-   begins with 00. ends[i] is the offset behind the bytes of the i-th event of the call, so these stand from ends[i - 1], or from 0, up to ends[i].
-   The venue record is checked once, before all else:
-   16 * 65,536  the words aren't a venue. Nothing at all is changed, progress neither
-   Then the call goes on until one of these, looked for in this order before each record:
-   VENUE_ALL_PLAYED, VENUE_ENDS_FULL, VENUE_REPORTS_FULL
-    9 to 12 * 65,536  the record at the offset can't be read, as in venue_apply. No byte is written for it
-   and progress says how far it came. The host takes out what it got and calls again with from = progress.at; a record that broke off (9) may go on
-   with more bytes behind it. A day played in pieces gives what it gives in one. An offset past the end plays nothing.
+   at the front of the report buffer: of an accepted event its reports, which may be none; of a refused one two bytes, 0 and its refusal, 2 to 8. No
+   report begins with a byte 0. ends[i] is the offset behind the bytes of event i of the call, counted from 0; they begin at ends[i - 1], those of
+   event 0 at 0. The answer is refusal * 65,536, or one of the three stops above, which are no refusals:
+   16  the words aren't a venue. This is checked once, before all else; nothing is changed, progress neither
+   Then, before each record, in this order: VENUE_ALL_PLAYED, VENUE_ENDS_FULL, VENUE_REPORTS_FULL, and
+    9 to 12  the record at the offset can't be read, as in venue_apply. No byte is written for it
+   With every answer but 16, progress says how far the call came. After VENUE_ENDS_FULL or VENUE_REPORTS_FULL the host takes out what it got and calls
+   again with from = progress.at; where no event was played, what it lends is too short for any. After 9 it may call again with more bytes behind the
+   records; 10 to 12 come again at the same offset. Records played in pieces give what they give in one call. An offset at or past the end plays
+   nothing, and progress.at is then that offset.
    Words behind the venue, bytes behind those written and ends behind the last event keep their content.
-   What to lend: the record check costs more than an event, so with room for one event in each call venue_play is no faster than venue_apply. With
-   1 MiB for reports and 65,536 ends the check no longer counts. With fewer than VENUE_REPORT_BYTES bytes or no place for an end nothing is played. */
+   What to lend: each call checks the venue record, which takes about as long as an event, and longer where many orders rest. So with room for one
+   event in each call venue_play is no faster than venue_apply. With 1 MiB for reports and 65,536 ends the check no longer counts. */
 uint32_t venue_play(uint32_t *words, size_t words_length, const uint8_t *records, size_t records_length, uint64_t from, uint8_t *reports,
                     size_t reports_length, uint64_t *ends, size_t ends_length, struct venue_progress *progress);
 

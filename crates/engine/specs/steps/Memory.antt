@@ -2,8 +2,7 @@
 use Prim.Native.Nat.{ℕ, _+_, _≤_, _<_}
 use mathlib.Core.Path.{_≡_}
 use mathlib.Core.List.{List}
-use mathlib.Core.Option.{Option}
-use lib.Dec.{T, leb, ltb}
+use lib.Dec.{T}
 use lib.ListN.{length, getD}
 use Rattle.numbers.specs.SevenBit.{Put}
 use Rattle.book.specs.declared.Order.{Order}
@@ -17,7 +16,7 @@ use Rattle.engine.specs.rules.Reports.{Report}
 use Rattle.engine.specs.rules.Pass.{Effect}
 use Rattle.engine.specs.rules.Venue.{Venue, effectOf, venueAfter}
 use Rattle.engine.specs.rules.Sound.{mostEvents, sound}
-use Rattle.engine.specs.rules.Refusals.{refuseUnless, refusalOfKind, leastBuffer}
+use Rattle.engine.specs.rules.Refusals.{leastBuffer}
 use Rattle.engine.specs.rules.Records.{reportsBytes}
 use Rattle.engine.specs.rules.Layout.{venueOf, soundWords}
 use Rattle.engine.specs.claims.Calls.{SameSpare}

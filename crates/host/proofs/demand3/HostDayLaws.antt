@@ -10,7 +10,7 @@ use lib.ListN.{length, getD, take, drop, length-replicate}
 use lib.Seq.{sets-eq, take-append-seam}
 use Rattle.numbers.specs.Tests.{pick, All}
 use Rattle.numbers.specs.Answers.{Outcome, gives, refuses, Read}
-use Rattle.numbers.specs.SevenBit.{IsByte, bytesOfAll, Stands, overwrite}
+use Rattle.numbers.specs.SevenBit.{IsByte, Stands, overwrite}
 use Rattle.numbers.proofs.TestLaws.{pick-yes, T-false, ne→T, eq→T}
 use Rattle.numbers.proofs.ByteLaws.{two-bytes, numbers-bytes}
 use Rattle.numbers.proofs.PlaceLaws.{stands-first, stands-front, stands-behind, stands-longer}
