@@ -10,7 +10,7 @@
 
 use crate::applier::{Applied, Applier};
 use crate::counts::Counts;
-use crate::model::{read_record, Report, Venue};
+use crate::model::{read_record, Refusal, Report, Venue, LEAST_BUFFER};
 use crate::observe::Observer;
 use crate::replay::Replay;
 use crate::rng::Rng;
@@ -98,7 +98,16 @@ impl Examiner for Pair {
     }
 
     fn step(&mut self, step: &Step, counts: &mut Counts) -> Result<(), Fault> {
-        let applied = self.apply(step, counts)?;
+        let mut applied = self.apply(step, counts)?;
+        if applied.answer == Err(Refusal::ShortBuffer) {
+            // Once more with room, as a host would; so the event is one of a
+            // play too.
+            let again = Step {
+                buffer: LEAST_BUFFER,
+                ..*step
+            };
+            applied = self.apply(&again, counts)?;
+        }
         self.replay.gather(step.record, &applied);
         if self.rng.one_in(EVENTS_A_LOOK) {
             self.look(counts)?;
