@@ -4,6 +4,7 @@ use crate::compare::same;
 use crate::counts::Counts;
 use crate::engine;
 use crate::model::{Progress, RecordCheck, Refusal, Stop, LEAST_BUFFER};
+use crate::output::Output;
 use crate::rng::Rng;
 use crate::sessions::Fault;
 use crate::sides::Sides;
@@ -31,30 +32,6 @@ pub type Answer = Result<Stop, Refusal>;
 pub struct Room {
     pub bytes: usize,
     pub ends: usize,
-}
-
-/// The bytes of all events played, over some calls, and where those of each end.
-#[derive(Default)]
-pub struct Output {
-    bytes: Vec<u8>,
-    ends: Vec<u64>,
-}
-
-impl Output {
-    fn add(&mut self, bytes: &[u8], ends: &[u64]) {
-        let before = self.bytes.len() as u64;
-        self.ends.extend(ends.iter().map(|end| before + end));
-        self.bytes.extend_from_slice(bytes);
-    }
-
-    /// The bytes of each event.
-    pub fn events(&self) -> impl Iterator<Item = &[u8]> {
-        let starts = [0].into_iter().chain(self.ends.iter().copied());
-        let ends = self.ends.iter();
-        starts
-            .zip(ends)
-            .map(|(at, &end)| &self.bytes[at as usize..end as usize])
-    }
 }
 
 /// A run whose front is lent, the same noise on both sides before each call.
@@ -115,8 +92,8 @@ impl Caller {
     }
 
     /// A call on both sides: the same answer, progress, bytes, ends and venue.
-    /// Adds the events to the output, and gives the answer and the offset that
-    /// it reached.
+    /// Adds the engine's bytes of the events to the output, and gives the answer
+    /// and the offset that it reached.
     pub fn call(
         &mut self,
         records: &[u8],
@@ -139,8 +116,9 @@ impl Caller {
         Ok((answer, progress.at))
     }
 
-    /// The answer and what was lent, the words left out. Gives the answer and
-    /// the progress, where the answer is 16 that of no event.
+    /// The answer and what was lent, the words left out. Gives the model's
+    /// answer, with which the engine's was compared, and the engine's progress,
+    /// where the answer is 16 that of no event.
     fn compare(
         &mut self,
         records: &[u8],
@@ -163,15 +141,16 @@ impl Caller {
         self.bytes.compare("byte", room.bytes)?;
         self.ends.compare("end", room.ends)?;
         if expected == Err(Refusal::VenueRecord) {
-            model = Progress {
+            engine = Progress {
                 at: from,
                 ..Progress::default()
             };
         }
-        Ok((expected, model))
+        Ok((expected, engine))
     }
 
-    /// Every word stays where no event was accepted since there were so many.
+    /// Every word stays where no event was accepted since there were so many by
+    /// the model's count, and else the words are those of the model's venue.
     fn compare_words(&self, accepted: u32) -> Result<(), Fault> {
         if self.sides.venue.accepted == accepted {
             self.sides.compare_kept("a word, no event accepted")
@@ -180,10 +159,10 @@ impl Caller {
         }
     }
 
-    /// Adds what was written to the output, and puts the noise back.
+    /// Adds what the engine wrote to the output, and puts the noise back.
     fn take(&mut self, progress: &Progress, output: &mut Output) {
         let (bytes, ends) = (progress.bytes as usize, progress.events as usize);
-        output.add(&self.bytes.model[..bytes], &self.ends.model[..ends]);
+        output.add(&self.bytes.engine[..bytes], &self.ends.engine[..ends]);
         self.bytes.restore(bytes);
         self.ends.restore(ends);
     }

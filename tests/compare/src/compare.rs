@@ -8,9 +8,9 @@
 //! content; a side is a buy where it is 0, and depth refuses with 2^64 - 1. Play
 //! looks at the venue first, so there 16 comes before 9 to 12.
 
-use crate::counts::{Counts, Lent};
-use crate::engine;
-use crate::model::{permitted_price, read_record, Event, RecordCheck, Report, Venue};
+use crate::applier::{Applied, Applier};
+use crate::counts::Counts;
+use crate::model::{read_record, Refusal, Report, Venue, LEAST_BUFFER};
 use crate::observe::Observer;
 use crate::replay::Replay;
 use crate::rng::Rng;
@@ -35,10 +35,10 @@ pub fn same<T: PartialEq + std::fmt::Debug>(what: &str, engine: T, model: T) -> 
     }
 }
 
-/// Both sides, and a buffer for each.
+/// Both sides, and what they are lent.
 struct Pair {
     sides: Sides,
-    lent: [Lent; 2],
+    applier: Applier,
     observer: Observer,
     replay: Replay,
     rng: Rng,
@@ -48,56 +48,29 @@ impl Pair {
     fn new() -> Self {
         Pair {
             sides: Sides::new(),
-            lent: [Lent::new(), Lent::new()],
+            applier: Applier::new(),
             observer: Observer::new(),
             replay: Replay::new(),
             rng: Rng::new(0),
         }
     }
 
-    fn apply(&mut self, step: &Step, counts: &mut Counts) -> Result<(), Fault> {
-        let read = read_record(step.record, 0);
-        let length = read.map_or(0, |(_, end)| end as u64);
-        same("record check", engine::record_check(step.record), length)?;
-        if let Ok((Event::Bid { price }, _)) = read {
-            let expected = permitted_price(price).unwrap_or(0);
-            same("permitted price", engine::permitted_price(price), expected)?;
-        }
-        let [engine_lent, model_lent] = &mut self.lent;
-        let (venue, words) = self.sides.lend();
-        let answer = engine::apply(words, step.record, engine_lent.lend(step.buffer));
-        let expected = read.and_then(|(event, _)| {
-            let buffer = model_lent.lend(step.buffer);
-            venue?.apply(&event, buffer, RecordCheck::Done)
-        });
-        same("answer", answer, engine::answer_of(expected))?;
-        match expected {
-            Err(refusal) => {
-                counts.refuse(refusal);
-                self.compare_refused()
+    /// Compares a step, and counts what it got.
+    fn apply(&mut self, step: &Step, counts: &mut Counts) -> Result<Applied, Fault> {
+        let applied = self.applier.call(&mut self.sides, step);
+        let applied = applied.map_err(|fault| {
+            let read = read_record(step.record, 0);
+            format!("{fault}\n  in {read:?}")
+        })?;
+        match applied.answer {
+            Err(refusal) => counts.refuse(refusal),
+            Ok(count) => {
+                let reports = Report::read_all(&applied.bytes);
+                let reports = reports.map_err(|refusal| format!("reports: {refusal:?}"))?;
+                counts.accept(count, &reports);
             }
-            Ok(count) => self.compare_accepted(count, counts),
         }
-    }
-
-    /// Venue, words behind it and the whole report buffer stay.
-    fn compare_refused(&self) -> Result<(), Fault> {
-        self.sides.compare_kept("a word after a refusal")?;
-        let kept = self.lent[0].keeps_from(0);
-        same("report buffer after a refusal kept", kept, true)
-    }
-
-    fn compare_accepted(&mut self, count: usize, counts: &mut Counts) -> Result<(), Fault> {
-        let [engine_lent, model_lent] = &mut self.lent;
-        same("reports", engine_lent.front(count), model_lent.front(count))?;
-        let reports = Report::read_all(engine_lent.front(count));
-        let reports = reports.map_err(|refusal| format!("reports: {refusal:?}"))?;
-        counts.accept(count, &reports);
-        let kept = engine_lent.keeps_from(count);
-        same("bytes behind the reports kept", kept, true)?;
-        engine_lent.restore(count);
-        model_lent.restore(count);
-        self.sides.compare_venue()
+        Ok(applied)
     }
 
     /// Compares the calls that only observe, which keep every word.
@@ -125,11 +98,17 @@ impl Examiner for Pair {
     }
 
     fn step(&mut self, step: &Step, counts: &mut Counts) -> Result<(), Fault> {
-        self.apply(step, counts).map_err(|fault| {
-            let read = read_record(step.record, 0);
-            format!("{fault}\n  in {read:?}")
-        })?;
-        self.replay.gather(step.record);
+        let mut applied = self.apply(step, counts)?;
+        if applied.answer == Err(Refusal::ShortBuffer) {
+            // Once more with room, as a host would; so the event is one of a
+            // play too.
+            let again = Step {
+                buffer: LEAST_BUFFER,
+                ..*step
+            };
+            applied = self.apply(&again, counts)?;
+        }
+        self.replay.gather(step.record, &applied);
         if self.rng.one_in(EVENTS_A_LOOK) {
             self.look(counts)?;
         }
@@ -138,11 +117,11 @@ impl Examiner for Pair {
 
     fn end(&mut self, counts: &mut Counts) -> Result<(), Fault> {
         self.look(counts)?;
-        self.replay.run(&mut self.rng, counts)
+        self.replay.run(&self.sides, &mut self.rng, counts)
     }
 
     fn recover(&mut self) {
-        self.lent = [Lent::new(), Lent::new()];
+        self.applier = Applier::new();
         self.observer = Observer::new();
         self.replay = Replay::new();
     }

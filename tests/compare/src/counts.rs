@@ -65,7 +65,7 @@ struct HostCounts {
     plays: PlayCounts,
 }
 
-/// Of plays of whole days and of pieces.
+/// Of plays of whole days, of pieces and in mixes.
 #[cfg(feature = "engine")]
 #[derive(Default)]
 struct PlayCounts {
@@ -73,6 +73,11 @@ struct PlayCounts {
     pieces: u64,
     events: u64,
     answers: [u64; 17],
+    both_ways: u64,
+    both_ways_events: u64,
+    not_comparable: u64,
+    mixed: u64,
+    mixed_applies: u64,
 }
 
 impl Counts {
@@ -133,8 +138,30 @@ impl Counts {
         self.host.plays.pieces += 1;
     }
 
-    /// A call of play that played so many events, whether of a whole day or of
-    /// a piece.
+    /// A day that was played and applied one by one, with so many events; none
+    /// where what both gave can't be compared.
+    pub fn both_ways(&mut self, events: Option<usize>) {
+        let plays = &mut self.host.plays;
+        if let Some(events) = events {
+            plays.both_ways += 1;
+            plays.both_ways_events += events as u64;
+        } else {
+            plays.not_comparable += 1;
+        }
+    }
+
+    /// A day that is gone through by a mix of both.
+    pub fn mix(&mut self) {
+        self.host.plays.mixed += 1;
+    }
+
+    /// A call of apply in such a mix.
+    pub fn mixed_apply(&mut self) {
+        self.host.plays.mixed_applies += 1;
+    }
+
+    /// A call of play that played so many events, whether of a whole day, of a
+    /// piece or in a mix.
     pub fn play(&mut self, answer: Result<Stop, Refusal>, events: u64) {
         let number = match answer {
             Ok(stop) => stop as usize,
@@ -156,7 +183,10 @@ impl fmt::Display for PlayCounts {
         for number in [0, 1, 2, 9, 10, 11, 12, 16] {
             write!(f, " {number}: {}", self.answers[number])?;
         }
-        Ok(())
+        let (days, events) = (self.both_ways, self.both_ways_events);
+        write!(f, "\ndays both ways {days} events {events} ")?;
+        let (days, mixed, applies) = (self.not_comparable, self.mixed, self.mixed_applies);
+        write!(f, "not comparable {days} mixed {mixed} applies {applies}")
     }
 }
 

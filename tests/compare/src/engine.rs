@@ -223,6 +223,13 @@ pub fn first_difference(venue: &Venue, words: &[u32]) -> Option<(usize, u32, u32
         .find(|(_, found, expected)| found != expected)
 }
 
+/// The words that mean a venue: the header, and the places that it uses.
+pub fn used(words: &[u32]) -> &[u32] {
+    let orders = words[COUNT_AT] as usize;
+    let used = HEADER_WORDS + ORDER_WORDS * orders.min(PLACES);
+    &words[..used]
+}
+
 /// The place of a flag word of an order, by the order's and the flag's number.
 pub fn flag_at(order: usize, flag: usize) -> usize {
     HEADER_WORDS + order * ORDER_WORDS + ORDER_WORDS - FLAGS + flag

@@ -2,6 +2,8 @@
 //! proved engine. See README.md.
 
 mod account;
+#[cfg(feature = "engine")]
+mod applier;
 mod bench;
 #[cfg(feature = "engine")]
 mod caller;
@@ -15,6 +17,8 @@ mod made_up;
 mod model;
 #[cfg(feature = "engine")]
 mod observe;
+#[cfg(any(test, feature = "engine"))]
+mod output;
 mod program;
 #[cfg(feature = "engine")]
 mod replay;

@@ -1,18 +1,29 @@
 //! A session's records once more, in one run of bytes that both sides play from
-//! the session's start: whole, in pieces, and from odd offsets.
+//! the session's start: whole, in pieces, mixed with single events, and from odd
+//! offsets. What the engine gave in the session, in pieces and in the mix is
+//! compared with what it gave in the whole.
 
-use crate::caller::{Caller, Output, Room};
-use crate::compare::same;
+use crate::applier::{Applied, Applier};
+use crate::caller::{Caller, Room};
 use crate::counts::Counts;
-use crate::model::{read_record, Refusal, Stop, LEAST_BUFFER};
+use crate::model::{Refusal, Stop, LEAST_BUFFER};
+use crate::output::Output;
 use crate::rng::Rng;
 use crate::sessions::Fault;
 use crate::sides::Sides;
+use crate::streams::{Step, MOST_BUFFER};
+
+/// Of so many sessions, on average, one is gone through by a mix too.
+const SESSIONS_A_MIX: u32 = 4;
 
 pub struct Replay {
     start: Sides,
     records: Vec<u8>,
+    /// The events of the session as the engine applied them one by one; none
+    /// after a step that got what no event of a play gets.
+    applied: Option<Output>,
     caller: Caller,
+    applier: Applier,
 }
 
 impl Replay {
@@ -20,7 +31,9 @@ impl Replay {
         Replay {
             start: Sides::new(),
             records: Vec::new(),
+            applied: None,
             caller: Caller::new(),
+            applier: Applier::new(),
         }
     }
 
@@ -28,25 +41,37 @@ impl Replay {
     pub fn start(&mut self, sides: &Sides) {
         self.start = sides.clone();
         self.records.clear();
+        self.applied = Some(Output::default());
     }
 
-    /// Takes the record at the front of a step's bytes; where it can't be read,
-    /// the first byte, behind which the next step goes on.
-    pub fn gather(&mut self, bytes: &[u8]) {
-        let end = read_record(bytes, 0).map_or(1, |(_, end)| end);
-        self.records.extend_from_slice(&bytes[..end]);
+    /// Takes the record at the front of a step's bytes, and what it got.
+    pub fn gather(&mut self, bytes: &[u8], applied: &Applied) {
+        self.records.extend_from_slice(&bytes[..applied.taken()]);
+        match (applied.answer, &mut self.applied) {
+            (Err(Refusal::ShortBuffer | Refusal::VenueRecord), _) => self.applied = None,
+            (_, Some(output)) => applied.add_to(output),
+            (_, None) => {}
+        }
     }
 
-    /// Plays the gathered records in all ways.
-    pub fn run(&mut self, rng: &mut Rng, counts: &mut Counts) -> Result<(), Fault> {
+    /// Plays the gathered records in all ways. The sides are those after the
+    /// session's last step.
+    pub fn run(&mut self, sides: &Sides, rng: &mut Rng, counts: &mut Counts) -> Result<(), Fault> {
         self.restart();
-        let whole = self.play_whole(rng, counts)?;
-        let venue = self.caller.sides.venue.clone();
+        let output = self.play_whole(rng, counts)?;
+        let whole = (&output, &self.caller.sides.clone());
+        counts.both_ways(self.applied.as_ref().map(Output::len));
+        if let Some(applied) = &self.applied {
+            compare("one by one", (applied, sides), whole)?;
+        }
         self.restart();
         let pieces = self.play_pieces(rng, counts)?;
-        compare_outputs(&pieces, &whole)?;
-        let equal = self.caller.sides.venue == venue;
-        same("venue after pieces as after the whole", equal, true)?;
+        compare("in pieces", (&pieces, &self.caller.sides), whole)?;
+        if rng.one_in(SESSIONS_A_MIX) {
+            self.restart();
+            let mixed = self.mix(rng, counts)?;
+            compare("mixed", (&mixed, &self.caller.sides), whole)?;
+        }
         self.play_from_odd_offsets(rng, counts)
     }
 
@@ -108,6 +133,70 @@ impl Replay {
         rng.pick(&[1, few, some, some, some, all]).min(all)
     }
 
+    /// Goes through the records by turns: one is applied, or some are played.
+    fn mix(&mut self, rng: &mut Rng, counts: &mut Counts) -> Result<Output, Fault> {
+        counts.mix();
+        let turns_a_play = rng.pick(&[2, 5, 20]);
+        let mut output = Output::default();
+        let mut next = Some(0);
+        while let Some(at) = next.filter(|&at| at < self.records.len()) {
+            next = if rng.one_in(turns_a_play) {
+                self.play_some(at, rng, &mut output, counts)?
+            } else {
+                self.apply_one(at, rng, &mut output, counts)?
+            };
+        }
+        Ok(output)
+    }
+
+    /// Applies the record at an offset, at times with too short a buffer. Gives
+    /// the offset to go on from; none where the words are no venue record.
+    fn apply_one(
+        &mut self,
+        at: usize,
+        rng: &mut Rng,
+        output: &mut Output,
+        counts: &mut Counts,
+    ) -> Result<Option<usize>, Fault> {
+        counts.mixed_apply();
+        let enough = rng.between(LEAST_BUFFER as u32, MOST_BUFFER as u32) as usize;
+        let step = Step {
+            record: &self.records[at..],
+            buffer: rng.pick(&[LEAST_BUFFER - 1, LEAST_BUFFER, enough, enough]),
+        };
+        let applied = self.applier.call(&mut self.caller.sides, &step);
+        let applied = applied.map_err(|fault| format!("apply at {at}: {fault}"))?;
+        Ok(match applied.answer {
+            Err(Refusal::VenueRecord) => None,
+            Err(Refusal::ShortBuffer) => Some(at),
+            _ => {
+                applied.add_to(output);
+                Some(at + applied.taken())
+            }
+        })
+    }
+
+    /// Plays some records from an offset on, as many as the room is for. Gives
+    /// the offset to go on from; none where the words are no venue record.
+    fn play_some(
+        &mut self,
+        at: usize,
+        rng: &mut Rng,
+        output: &mut Output,
+        counts: &mut Counts,
+    ) -> Result<Option<usize>, Fault> {
+        let room = Room::little(rng);
+        let (answer, reached) = self
+            .caller
+            .call(&self.records, at as u64, room, output, counts)?;
+        let reached = reached as usize;
+        Ok(match answer {
+            Err(Refusal::VenueRecord) => None,
+            Ok(_) => Some(reached),
+            Err(_) => Some(reached + 1),
+        })
+    }
+
     /// Plays from anywhere in the records, in the middle of one too, and from
     /// their end and past it.
     fn play_from_odd_offsets(&mut self, rng: &mut Rng, counts: &mut Counts) -> Result<(), Fault> {
@@ -145,14 +234,9 @@ impl Room {
     }
 }
 
-/// The same events with the same bytes.
-fn compare_outputs(pieces: &Output, whole: &Output) -> Result<(), Fault> {
-    let counts = [pieces, whole].map(|output| output.events().count());
-    same("events played in pieces and whole", counts[0], counts[1])?;
-    let pairs = pieces.events().zip(whole.events());
-    for (number, (pieces, whole)) in pairs.enumerate() {
-        let what = format!("bytes of event {number}, in pieces and whole");
-        same(&what, pieces, whole)?;
-    }
-    Ok(())
+/// The engine's events on one way and its words at the end are those of the
+/// whole play.
+fn compare(way: &str, found: (&Output, &Sides), whole: (&Output, &Sides)) -> Result<(), Fault> {
+    found.0.compare(way, whole.0)?;
+    found.1.compare_end(way, whole.1)
 }

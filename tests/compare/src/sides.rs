@@ -131,6 +131,22 @@ impl Sides {
         same("words behind the venue", behind, noise)
     }
 
+    /// The engine's words here mean the same venue as those after the whole
+    /// play. The model's venues are left out: each was compared in its calls.
+    pub fn compare_end(&self, way: &str, whole: &Sides) -> Result<(), Fault> {
+        let (found, expected) = (engine::used(&self.words), engine::used(&whole.words));
+        if found == expected {
+            return Ok(());
+        }
+        // Where the counts of orders are the same, so are the lengths.
+        let mut pairs = found.iter().zip(expected).enumerate();
+        let differing = pairs.find(|(_, (found, expected))| found != expected);
+        let (at, (found, expected)) = differing.expect("a word that differs");
+        Err(format!(
+            "word {at} of the venue: {way} {found}, whole {expected}"
+        ))
+    }
+
     /// Makes the words now and then something that is no venue record.
     fn spoil(&mut self, rng: &mut Rng) {
         let len = self.venue.orders.len();
