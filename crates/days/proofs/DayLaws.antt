@@ -210,6 +210,7 @@ module _ {w₀ records b₀ es₀ w b es : List ℕ} {from at end k : ℕ} (p : 
         applied = record { read = p .applied .read ++ (r .value ∷ []); count = omega (arith, length-append (p .applied .read) (r .value ∷ []), p .applied .count); reads = read-more (p .applied .reads) e; steps = step-more (p .applied .steps) (q .stepped) };
       }
 
+  -- VenueBroken is none of the four
   never : _≡_ {A = ℕ} 0 1 → ⊥
   never z = omega arith
 

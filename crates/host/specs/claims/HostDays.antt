@@ -132,7 +132,8 @@ unfoldable pub piecesPlayed : List PlayCall → List ApplyCall
 piecesPlayed [] = []
 piecesPlayed (c ∷ cs) = callsPlayed c ++ piecesPlayed cs
 
--- however a day is cut, in one piece or in many (of a host that moves the rest of the records to the front, EqualDayReports says it): the same events with the same record bytes, numbers and report bytes, the same end, the same venue
+-- however a day is cut, in one piece or in many: the same events with the same record bytes, numbers and report bytes, the same end, the same venue.
+-- Of a host that moves the rest of the records to the front EqualDayReports says it
 pub record SameDay (cs ds : List PlayCall) (w v : List ℕ) (a b x y : ℕ) : Type 0 where
   pub events : piecesPlayed cs ≡ piecesPlayed ds
   pub venue : venueOf w ≡ venueOf v
