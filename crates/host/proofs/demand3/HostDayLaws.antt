@@ -1,5 +1,5 @@
 -- What holds of played days: the theorems of specs/claims/HostDays.antt, from those of chains of venue_apply. Assumes nothing.
-use Prim.Native.Nat.{ℕ, suc, _+_, _-_, _≤_, _<_}
+use Prim.Native.Nat.{ℕ, zero, suc, _+_, _-_, _≤_, _<_}
 use native.Mathlib.Omega.{arith}
 use mathlib.Core.Path.{_≡_, refl, sym, ap, subst, _∙_}
 use mathlib.Core.Bool.{Bool, true, false}
@@ -11,7 +11,7 @@ use lib.Seq.{sets-eq, take-append-seam}
 use Rattle.numbers.specs.Tests.{pick, All}
 use Rattle.numbers.specs.Answers.{Outcome, gives, refuses, Read}
 use Rattle.numbers.specs.SevenBit.{IsByte, Stands, overwrite}
-use Rattle.numbers.proofs.TestLaws.{pick-yes, T-false, ne→T, eq→T}
+use Rattle.numbers.proofs.TestLaws.{by-test, pick-yes, T-false, ne→T, eq→T}
 use Rattle.numbers.proofs.ByteLaws.{two-bytes, numbers-bytes}
 use Rattle.numbers.proofs.PlaceLaws.{stands-first, stands-front, stands-behind, stands-longer}
 use Rattle.engine.specs.declared.Event.{Event}
@@ -39,8 +39,8 @@ use Rattle.days.proofs.DayLaws.{broken-day}
 use Rattle.days.proofs.DayRunLaws.{played-one-by-one, run-then, StoppedAt, stopped-at, reads-then, reads-same, NoneAt, reads-all}
 use Rattle.host.specs.rules.Host.{hostAnswer, endOrZero}
 use Rattle.host.specs.claims.Calls.{HostOpened, RecordApplied}
-use Rattle.host.specs.claims.HostCalls.{ApplyCall, ApplyChain, none, more}
-use Rattle.host.specs.claims.HostDays.{PlayCall, PlayedBy, told, ownBuffer, callTold, cut, callsTold, callsPlayed, HostCall, answerOf, HostChain, none as noCalls, applied, played as day, oneByOne, DaysOneByOne, Demand3OfDays, NoDayGets16, EqualDayReports, Pieces, last, more as moreThen, piecesPlayed, PiecesAgree}
+use Rattle.host.specs.claims.HostCalls.{ApplyCall, ApplyChain, none, more, EventCall, withEvent, eventCalls, LongBuffer}
+use Rattle.host.specs.claims.HostDays.{PlayCall, PlayedBy, told, ownBuffer, callTold, cut, callsTold, callsPlayed, HostCall, apply, play, appliedOnly, answerOf, HostChain, none as noCalls, applied, played as day, oneByOne, DaysOneByOne, Demand3OfDays, NoDayGets16, EqualDayReports, Pieces, last, more as moreThen, piecesPlayed, PiecesAgree}
 use Rattle.host.proofs.refinement.HostLaws.{outcome-told, event-applied, apply-read, opened-fresh}
 use Rattle.host.proofs.demand3.HostCallLaws.{demand3-of-hosts, no-host-gets-16, equal-host-reports}
 
@@ -207,9 +207,42 @@ days-one-by-one w hs w′ c = calls c
 pub demand3-of-days : Demand3OfDays
 demand3-of-days w close w₀ h hs w′ c = demand3-of-hosts w close w₀ h (oneByOne hs) w′ (calls c)
 
+-- the buffers of a day's events are long enough
+
+abbrev Long : List EventCall → Type 0
+Long cs = All LongBuffer cs
+
+event-long : (x : Outcome (Read Event)) (c : ApplyCall) (cs : List EventCall) → leastBuffer ≤ length (c .lent) → Long cs → Long (withEvent x c cs)
+event-long (gives r) c cs l h = (l, h)
+event-long (refuses n) c cs l h = h
+
+told-long : (bytes : List ℕ) (x : Outcome (List ℕ)) → leastBuffer ≤ length ((callTold bytes x) .lent)
+told-long bytes (gives reports) = omega (arith, own-long)
+told-long bytes (refuses n) = omega (arith, own-long)
+
+calls-long : (k : ℕ) (records : List ℕ) (at : ℕ) (b : List ℕ) (start : ℕ) (ends : List ℕ) (cs : List ApplyCall) → Long (eventCalls cs) → Long (eventCalls (callsTold k records at b start ends ++ cs))
+unfolding callsTold eventCalls
+calls-long zero records at b start ends cs h = h
+calls-long (suc k) records at b start ends cs h =
+    let next : ℕ = endOrZero (recordAt records at) in
+    let end : ℕ = getD ends 0 0 in
+    let c : ApplyCall = callTold (cut at next records) (told (cut start end b)) in
+    event-long (recordAt (c .bytes) 0) c (eventCalls (callsTold k records next b end (drop 1 ends) ++ cs)) (told-long (cut at next records) (told (cut start end b))) (calls-long k records next b end (drop 1 ends) cs h)
+
+all-long : (hs : List HostCall) → Long (eventCalls (appliedOnly hs)) → Long (eventCalls (oneByOne hs))
+unfolding appliedOnly oneByOne eventCalls callsPlayed
+all-long [] h = tt
+all-long (apply c ∷ hs) h = by-record (recordAt (c .bytes) 0) h (all-long hs)
+  where
+    by-record : (x : Outcome (Read Event)) → Long (withEvent x c (eventCalls (appliedOnly hs))) → (Long (eventCalls (appliedOnly hs)) → Long (eventCalls (oneByOne hs))) → Long (withEvent x c (eventCalls (oneByOne hs)))
+    by-record (gives r) k later = (k .0, later (k .1))
+    by-record (refuses n) k later = later k
+all-long (play c ∷ hs) h =
+    by-test (λ (l : List ApplyCall). Long (eventCalls (l ++ oneByOne hs))) (eqb (c .answer) (hostAnswer (refuses 16))) (λ t. all-long hs h) (λ t. calls-long (getD (c .progress) 0 0) (c .records) (c .from) (c .after) 0 (c .ends) (oneByOne hs) (all-long hs h))
+
 pub equal-day-reports : EqualDayReports
-equal-day-reports close w v w₀ v₀ h k hs gs w′ v′ c d =
-    equal-host-reports close w v w₀ v₀ h k (oneByOne hs) (oneByOne gs) w′ v′ (calls c) (calls d)
+equal-day-reports close w v w₀ v₀ h k hs gs w′ v′ c d q l m =
+    equal-host-reports close w v w₀ v₀ h k (oneByOne hs) (oneByOne gs) w′ v′ (calls c) (calls d) q (all-long hs l) (all-long gs m)
 
 -- no refusal 16
 

@@ -110,13 +110,18 @@ NoDayGets16 =
     (hs : List HostCall) (w′ : List ℕ) → HostChain w₀ hs w′ →
     All (λ (h : HostCall). answerOf h ≡ hostAnswer (refuses 16) → ⊥) hs × All (λ (c : ApplyCall). c .answer ≡ hostAnswer (refuses 16) → ⊥) (oneByOne hs)
 
--- equal events, equal reports, however they are played
+-- equal events, equal reports, however they are played: in days, or one by one in buffers that are long enough
+unfoldable pub appliedOnly : List HostCall → List ApplyCall
+appliedOnly [] = []
+appliedOnly (apply c ∷ hs) = c ∷ appliedOnly hs
+appliedOnly (play c ∷ hs) = appliedOnly hs
+
 abbrev pub EqualDayReports : Type 0
 EqualDayReports =
     (close : ℕ) (w v w₀ v₀ : List ℕ) → HostOpened w close 0 w₀ → HostOpened v close 0 v₀ →
     (hs gs : List HostCall) (w′ v′ : List ℕ) → HostChain w₀ hs w′ → HostChain v₀ gs v′ →
     map (λ (c : EventCall). c .event) (eventCalls (oneByOne hs)) ≡ map (λ (c : EventCall). c .event) (eventCalls (oneByOne gs)) →
-    All LongBuffer (eventCalls (oneByOne hs)) → All LongBuffer (eventCalls (oneByOne gs)) →
+    All LongBuffer (eventCalls (appliedOnly hs)) → All LongBuffer (eventCalls (appliedOnly gs)) →
     SameForHosts (eventCalls (oneByOne hs)) (eventCalls (oneByOne gs)) w′ v′
 
 -- A day in pieces
