@@ -3,7 +3,7 @@ use crate::Order;
 use crate::Position;
 use crate::words;
 ghost use mathlib.Core.Path.{_≡_};
-ghost use Prim.Native.Nat.{_+_, _<_};
+ghost use Prim.Native.Nat.{_+_, _≤_, _<_};
 ghost use lib.Dec.{ltb, eqb};
 ghost use lib.ListN.{length};
 ghost use Rattle.numbers.specs.Tests.{pick};
@@ -13,20 +13,25 @@ ghost use Rattle.book.specs.steps.BookSteps.{Book};
 ghost use Rattle.book.specs.declared.Position.the-variants.{At};
 ghost use Rattle.book.specs.steps.Positions.{IsAt, Found, FirstReached, considered};
 
-// Whether the working order o reaches the resting order x.
+// What puts a price out of reach of every other: 2^32 where the orders aren't opposite.
+fn out_of_reach(opposite: bool) -> u64
+    ensures { λ r. ⌜ (r ≡ pick opposite 0 4_294_967_296) × (r ≤ 4_294_967_296) ⌝ }
+{
+    if opposite {
+        return 0;
+    }
+    4_294_967_296
+}
+
+// Whether the working order o reaches the resting order x. One comparison tests side and price: the side of the next order can't be foretold, so
+// no branch goes by it.
 fn reaches(o: Order, x: Order) -> bool
     ensures { λ r. ⌜ r ≡ Matching.reaches o x ⌝ }
 {
     if o.mark == 0 {
-        if x.mark == 0 {
-            return false;
-        }
-        return x.price <= o.price;
+        return out_of_reach(x.mark != 0) + (x.price as u64) <= (o.price as u64);
     }
-    if x.mark == 0 {
-        return o.price <= x.price;
-    }
-    false
+    out_of_reach(x.mark == 0) + (o.price as u64) <= (x.price as u64)
 }
 
 // Whether, for an order of a mark, price p is better than price q.

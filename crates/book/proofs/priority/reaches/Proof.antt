@@ -1,25 +1,78 @@
--- `reaches` by the two sides. Assumes nothing.
-use borrow.Author.Tests.{eq-eqb, ne-eqb}
+-- `reaches` by the side of the working order. Assumes nothing.
+use Prim.Native.Nat.{ℕ, _+_, _<_}
+use native.Mathlib.Omega.{arith}
+use mathlib.Core.Path.{_≡_, ap, _∙_}
+use mathlib.Core.Bool.{Bool, true, false, not, _&&_}
+use lib.Dec.{leb, eqb}
+use borrow.Author.Needs.{needs}
+use borrow.Author.Tests.{eq-eqb, ne-eqb, lt-leb}
 use Rattle.numbers.specs.Tests.{pick}
+use Rattle.book.specs.declared.Order.{Order}
 use Rattle.book.specs.rules.Matching.{reaches}
 use Rattle.book.proofs.priority.reaches.Statement.{statement}
 use Rattle.book.proofs.priority.reaches.Tie as tie
 
-returns : tie.Need-returns
+-- one comparison for both tests
+joined : (b : Bool) (p q : ℕ) {s : ℕ} → q < 4_294_967_296 → s ≡ pick b 0 4_294_967_296 → leb (s + p) q ≡ (b && leb p q)
+unfolding pick
+joined true p q h e = ap (λ (n : ℕ). leb n q) (omega (arith, e))
+joined false p q {s} h e = lt-leb (s + p) q (omega (arith, e, h))
+
+-- the two sides
+
+buys : (o x : Order) → o.mark ≡ 0 → (not (eqb (x .mark) 0) && leb (x .price) (o .price)) ≡ reaches o x
 unfolding reaches pick
-returns c = simp (eq-eqb _ 0 (c .before .before .if1 .taken), eq-eqb _ 0 (c .if2 .taken))
+buys o x e = rw (eq-eqb (o .mark) 0 e)
+
+sells : (o x : Order) → (o.mark ≡ 0 → ⊥) → (eqb (x .mark) 0 && leb (o .price) (x .price)) ≡ reaches o x
+unfolding reaches pick
+sells o x e = rw (ne-eqb (o .mark) 0 e)
+
+out-of-reach-requires : tie.Need-out-of-reach-requires
+out-of-reach-requires c κs = search needs
+
+cast-result : tie.Need-cast-result
+cast-result c = search needs
+
+add-result : tie.Need-add-result
+add-result c = omega (arith, c .before .out-of-reach .ensures .1, c .struct-known3 .given)
+
+cast-result-2 : tie.Need-cast-result-2
+cast-result-2 c = search needs
+
+returns : tie.Need-returns
+returns c =
+    let s = c .before .before .before .before .before .before in
+    joined (not (eqb (s .args .x .mark) 0)) (s .args .x .price) (s .args .o .price) (omega (arith, c .struct-known4 .given)) (c .before .before .out-of-reach .ensures .0) ∙ buys (s .args .o) (s .args .x) (c .before .before .before .before .if1 .taken)
+
+out-of-reach-requires-2 : tie.Need-out-of-reach-requires-2
+out-of-reach-requires-2 c κs = search needs
+
+cast-result-3 : tie.Need-cast-result-3
+cast-result-3 c = search needs
+
+add-result-2 : tie.Need-add-result-2
+add-result-2 c = omega (arith, c .before .out-of-reach2 .ensures .1, c .struct-known6 .given)
+
+cast-result-4 : tie.Need-cast-result-4
+cast-result-4 c = search needs
 
 returns-2 : tie.Need-returns-2
-unfolding reaches pick
-returns-2 c = simp (eq-eqb _ 0 (c .before .before .before .before .if1 .taken), ne-eqb _ 0 (c .before .before .if2 .left))
-
-returns-3 : tie.Need-returns-3
-unfolding reaches pick
-returns-3 c = simp (ne-eqb _ 0 (c .before .before .before .before .if1 .left), eq-eqb _ 0 (c .before .before .if3 .taken))
-
-returns-4 : tie.Need-returns-4
-unfolding reaches pick
-returns-4 c = simp (ne-eqb _ 0 (c .before .before .if1 .left), ne-eqb _ 0 (c .if3 .left))
+returns-2 c =
+    let s = c .before .before .before .before .before .before in
+    joined (eqb (s .args .x .mark) 0) (s .args .o .price) (s .args .x .price) (omega (arith, c .struct-known7 .given)) (c .before .before .out-of-reach2 .ensures .0) ∙ sells (s .args .o) (s .args .x) (c .before .before .before .before .if1 .left)
 
 pub reaches-spec : {M : Type 1} → statement M
-reaches-spec = tie.close (tie.spec returns returns-2 returns-3 returns-4)
+reaches-spec =
+    tie.close
+    (tie.spec
+    out-of-reach-requires
+    cast-result
+    add-result
+    cast-result-2
+    returns
+    out-of-reach-requires-2
+    cast-result-3
+    add-result-2
+    cast-result-4
+    returns-2)
