@@ -8,8 +8,8 @@ pub mod sound;
 pub mod trade;
 pub mod words;
 
-// An order as document 01, "Orders", has it: the fields of its entry, then what the venue adds. `limit` is the price of the
-// entry, `price` the present price, and `shares` those left.
+// An order as document 01, "Orders", has it: the fields of its entry, then what the venue adds. `limit` is what counts as the
+// limit of the entry, `price` the present price, and `shares` those left.
 pub struct Order {
     pub id: u32,
     // 0 buy, 1 long sell, 2 short, 3 short exempt
@@ -32,6 +32,8 @@ pub struct Order {
     pub used: bool,
     // the bid was 0 or below the present price when that price was given
     pub clear: bool,
+    // a market short (No. 1): it follows the bid, and stays while there is none
+    pub market: bool,
 }
 
 // An order record of the run that a host lends for copy out and depth: the same fields, one 32-bit word each, so any bytes are a record. Copy out
@@ -51,6 +53,7 @@ pub struct OrderRecord {
     pub adjusted: u32,
     pub used: u32,
     pub clear: u32,
+    pub market: u32,
 }
 
 // Where an order stands in the book, counted from 0.

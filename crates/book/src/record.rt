@@ -26,6 +26,7 @@ fn record_of(o: Order) -> OrderRecord
         adjusted: words::flag_word(o.adjusted),
         used: words::flag_word(o.used),
         clear: words::flag_word(o.clear),
+        market: words::flag_word(o.market),
     }
 }
 

@@ -3,10 +3,11 @@ use crate::words;
 use prices::increments;
 ghost use mathlib.Core.Path.{_≡_};
 ghost use Prim.Native.Nat.{_<_, _≤_};
+ghost use lib.Dec.{T};
 ghost use lib.ListN.{length};
 ghost use Rattle.book.specs.rules.Sound.{slideAllowed, soundOrder};
 ghost use Rattle.book.specs.rules.Words.{venueWords, word, orderAt, headerLaidOut, soundBook};
-ghost use Rattle.book.specs.steps.RecordWalk.{fromOne, codesSound, pricesSound, bitsAt, idBefore, bucketOf, stampSeen, lastIn, Linked, soundAt};
+ghost use Rattle.book.specs.steps.RecordWalk.{fromOne, codesSound, pricesSound, bitsAt, marketAt, idBefore, bucketOf, stampSeen, lastIn, Linked, soundAt};
 
 const BUCKETS: u32 = 512;
 
@@ -64,9 +65,9 @@ fn from_one(x: u32, highest: u32) -> bool
     x <= highest
 }
 
-// Whether an order is sound whose show is 0 or 1.
+// Whether an order is sound whose show is 0 or 1 and whose market flag is allowed.
 fn order_sound(w: &[u32], i: usize, last_id: u32, last_stamp: u32) -> bool
-    requires { ⌜ (venueWords ≤ length (now w)) × (i < 256) × (word (now w) i 4 ≤ 1) ⌝ }
+    requires { ⌜ (venueWords ≤ length (now w)) × (i < 256) × (word (now w) i 4 ≤ 1) × T (marketAt (now w) i) ⌝ }
     ensures { λ r. ⌜ r ≡ soundOrder «last_id» «last_stamp» (orderAt (now (w .entry)) i) ⌝ }
 {
     if words::word_at(w, i, words::ID) > last_id {
@@ -90,7 +91,7 @@ fn order_sound(w: &[u32], i: usize, last_id: u32, last_stamp: u32) -> bool
     false
 }
 
-// Whether show and the three flags are each 0 or 1: none of them has another bit than the lowest.
+// Whether show and the flags are each 0 or 1: none of them has another bit than the lowest.
 fn bits_sound(w: &[u32], i: usize) -> bool
     requires { ⌜ (venueWords ≤ length (now w)) × (i < 256) ⌝ }
     ensures { λ r. ⌜ r ≡ bitsAt (now (w .entry)) i ⌝ }
@@ -99,7 +100,22 @@ fn bits_sound(w: &[u32], i: usize) -> bool
     let adjusted = words::word_at(w, i, words::ADJUSTED);
     let used = words::word_at(w, i, words::USED);
     let clear = words::word_at(w, i, words::CLEAR);
-    (show | (adjusted | (used | clear))) <= 1
+    let market = words::word_at(w, i, words::MARKET);
+    (show | (adjusted | (used | (clear | market)))) <= 1
+}
+
+// Whether a market flag stands on a short with limit 1, or there is none.
+fn market_sound(w: &[u32], i: usize) -> bool
+    requires { ⌜ (venueWords ≤ length (now w)) × (i < 256) ⌝ }
+    ensures { λ r. ⌜ r ≡ marketAt (now (w .entry)) i ⌝ }
+{
+    if words::word_at(w, i, words::MARKET) == 1 {
+        if words::word_at(w, i, words::MARK) == 2 {
+            return words::word_at(w, i, words::LIMIT) == 1;
+        }
+        return false;
+    }
+    true
 }
 
 // Whether place i is sound by itself and beside the id of the place before it, 0 for the first.
@@ -109,7 +125,9 @@ fn place_sound(w: &[u32], i: usize, before: u32, last_id: u32, last_stamp: u32) 
 {
     if bits_sound(w, i) {
         if before < words::word_at(w, i, words::ID) {
-            return order_sound(w, i, last_id, last_stamp);
+            if market_sound(w, i) {
+                return order_sound(w, i, last_id, last_stamp);
+            }
         }
     }
     false

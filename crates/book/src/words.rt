@@ -11,14 +11,14 @@ ghost use Rattle.book.specs.steps.WordSteps.{Row, Copied, Stored};
 // The words of the header and of an order, the places for orders, and the words of a venue.
 const HEADER: usize = 16;
 
-pub(crate) const WIDTH: usize = 13;
+pub(crate) const WIDTH: usize = 14;
 
 pub const PLACES: usize = 256;
 
 pub const VENUE: usize = HEADER + PLACES * WIDTH;
 
 // The number of this layout, and the header word that has it.
-pub const LAYOUT: u32 = 1;
+pub const LAYOUT: u32 = 2;
 
 pub const LAYOUT_WORD: usize = 15;
 
@@ -48,6 +48,8 @@ pub(crate) const ADJUSTED: usize = 10;
 pub(crate) const USED: usize = 11;
 
 pub(crate) const CLEAR: usize = 12;
+
+pub(crate) const MARKET: usize = 13;
 
 pub(crate) fn wide(x: u32) -> usize
     ensures { λ r. ⌜ r ≡ x ⌝ }
@@ -121,6 +123,7 @@ pub fn load(w: &[u32], i: usize) -> Order
         adjusted: w[p + ADJUSTED] == 1,
         used: w[p + USED] == 1,
         clear: w[p + CLEAR] == 1,
+        market: w[p + MARKET] == 1,
     }
 }
 
@@ -140,6 +143,7 @@ fn row_of(o: Order) -> [u32; WIDTH]
     let a = flag_word(o.adjusted);
     let u = flag_word(o.used);
     let c = flag_word(o.clear);
+    let m = flag_word(o.market);
     [
         o.id,
         o.mark,
@@ -154,6 +158,7 @@ fn row_of(o: Order) -> [u32; WIDTH]
         a,
         u,
         c,
+        m,
     ]
 }
 

@@ -7,7 +7,7 @@ use Rattle.numbers.proofs.TestLaws.{Each, conj-T, T-conj, eq→T, tests}
 use Rattle.prices.specs.Prices.{legal, isBid}
 use Rattle.book.specs.declared.Order.{Order}
 use Rattle.book.specs.rules.Orders.{reduced}
-use Rattle.book.specs.rules.Sound.{mostShares, slideAllowed, orderConditions, soundOrder}
+use Rattle.book.specs.rules.Sound.{mostShares, slideAllowed, marketAllowed, orderConditions, soundOrder}
 
 -- what an order has from its entry on
 abbrev pub FieldsSound : Order → Type 0
@@ -19,6 +19,7 @@ FieldsSound o =
       life : o.life ≤ 1;
       slide : T (slideAllowed (o .mark) (o .slide));
       entryBid : T (isBid (o .«entry_bid»));
+      market : T (marketAllowed (o .market) (o .mark) (o .limit));
     }
 
 -- an order that may work, and one that may rest; n is the last id and s the last stamp
@@ -56,11 +57,11 @@ unfolding soundOrder
 order-mayRest n s o t = go (conj-T (orderConditions n s o) t)
   where
     go : Each (orderConditions n s o) → MayRest n s o
-    go (id, (mark, (limit, (least, (most, (show, (life, (slide, (first, (last, (price, (entryBid, end)))))))))))) =
+    go (id, (mark, (limit, (least, (most, (show, (life, (slide, (first, (last, (price, (entryBid, (market, end))))))))))))) =
         record {
           works =
               record {
-                fields = record { mark = leb→le _ _ mark; limit = limit; show = leb→le _ _ show; life = omega tests; slide = slide; entryBid = entryBid };
+                fields = record { mark = leb→le _ _ mark; limit = limit; show = leb→le _ _ show; life = omega tests; slide = slide; entryBid = entryBid; market = market };
                 id = leb→le _ _ id;
                 first = leb→le _ _ first;
                 last = leb→le _ _ last;
@@ -76,4 +77,4 @@ unfolding soundOrder
 mayRest-order n s o h =
     let w = h .works in
     let f = w .fields in
-    T-conj (orderConditions n s o) (le→leb _ _ (w .id), (le→leb _ _ (f .mark), (f .limit, (le→leb _ _ (h .least), (le→leb _ _ (w .most), (le→leb _ _ (f .show), (eq→T (h .day), (f .slide, (le→leb _ _ (w .first), (le→leb _ _ (w .last), (w .price, (f .entryBid, tt))))))))))))
+    T-conj (orderConditions n s o) (le→leb _ _ (w .id), (le→leb _ _ (f .mark), (f .limit, (le→leb _ _ (h .least), (le→leb _ _ (w .most), (le→leb _ _ (f .show), (eq→T (h .day), (f .slide, (le→leb _ _ (w .first), (le→leb _ _ (w .last), (w .price, (f .entryBid, (f .market, tt)))))))))))))

@@ -10,19 +10,19 @@ use lib.Dec.{T, leb, ltb, eqb, leb→le, le→leb, eqb→eq}
 use Rattle.numbers.proofs.TestLaws.{and-T, T-and, or-T, T-inl, T-inr, eq→T, bool-ext, conj-T, T-conj, tests}
 use Rattle.prices.specs.Prices.{legal}
 use Rattle.book.specs.declared.Order.{Order}
-use Rattle.book.specs.rules.Sound.{mostShares, slideAllowed, orderConditions, soundOrder}
+use Rattle.book.specs.rules.Sound.{mostShares, slideAllowed, marketAllowed, orderConditions, soundOrder}
 use Rattle.book.specs.rules.Words.{word, orderAt, flagsAt}
-use Rattle.book.specs.steps.RecordWalk.{fromOne, codesSound, pricesSound, bitsAt, idBefore, soundAt}
-use Rattle.book.proofs.definitions.OrderConditionLaws.{order-mayRest}
+use Rattle.book.specs.steps.RecordWalk.{fromOne, codesSound, pricesSound, bitsAt, marketAt, idBefore, soundAt}
+use Rattle.book.proofs.definitions.OrderConditionLaws.{MayRest, order-mayRest}
 
--- an order whose show is 0 or 1
-pub sound-groups : (lastId lastStamp : ℕ) (o : Order) → o.show ≤ 1 → soundOrder lastId lastStamp o ≡ (leb (o .id) lastId && (fromOne (o .shares) mostShares && (fromOne (o .stamp) lastStamp && (codesSound (o .mark) (o .life) (o .slide) && pricesSound (o .limit) (o .price) (o .«entry_bid»)))))
+-- an order whose show is 0 or 1 and whose market flag is allowed
+pub sound-groups : (lastId lastStamp : ℕ) (o : Order) → o.show ≤ 1 → T (marketAllowed (o .market) (o .mark) (o .limit)) → soundOrder lastId lastStamp o ≡ (leb (o .id) lastId && (fromOne (o .shares) mostShares && (fromOne (o .stamp) lastStamp && (codesSound (o .mark) (o .life) (o .slide) && pricesSound (o .limit) (o .price) (o .«entry_bid»)))))
 unfolding soundOrder fromOne codesSound pricesSound
-sound-groups lastId lastStamp o h = bool-ext _ _ there back
+sound-groups lastId lastStamp o h k = bool-ext _ _ there back
   where
     there : T (soundOrder lastId lastStamp o) → T (leb (o .id) lastId && (fromOne (o .shares) mostShares && (fromOne (o .stamp) lastStamp && (codesSound (o .mark) (o .life) (o .slide) && pricesSound (o .limit) (o .price) (o .«entry_bid»)))))
     there t =
-        let (id, (mark, (limit, (sharesLow, (sharesHigh, (show, (life, (slide, (stampLow, (stampHigh, (price, (bid, _)))))))))))) = conj-T (orderConditions lastId lastStamp o) t in
+        let (id, (mark, (limit, (sharesLow, (sharesHigh, (show, (life, (slide, (stampLow, (stampHigh, (price, (bid, (_, _))))))))))))) = conj-T (orderConditions lastId lastStamp o) t in
         T-and (leb (o .id) lastId) _ id (T-and (fromOne (o .shares) mostShares) _ (T-and (leb 1 (o .shares)) _ sharesLow sharesHigh) (T-and (fromOne (o .stamp) lastStamp) _ (T-and (leb 1 (o .stamp)) _ stampLow stampHigh) (T-and (codesSound (o .mark) (o .life) (o .slide)) _ (T-and (eqb (o .life) 0) _ life (T-and (leb (o .mark) 3) _ mark slide)) (T-and (legal (o .limit)) _ limit (T-and (legal (o .price)) _ price bid)))))
 
     back : T (leb (o .id) lastId && (fromOne (o .shares) mostShares && (fromOne (o .stamp) lastStamp && (codesSound (o .mark) (o .life) (o .slide) && pricesSound (o .limit) (o .price) (o .«entry_bid»))))) → T (soundOrder lastId lastStamp o)
@@ -37,7 +37,7 @@ sound-groups lastId lastStamp o h = bool-ext _ _ there back
         let mark = and-T (leb (o .mark) 3) _ (life .1) in
         let limit = and-T (legal (o .limit)) _ (d .1) in
         let price = and-T (legal (o .price)) _ (limit .1) in
-        T-conj (orderConditions lastId lastStamp o) (a .0, (mark .0, (limit .0, (shares .0, (shares .1, (le→leb _ _ h, (life .0, (mark .1, (stamp .0, (stamp .1, (price .0, (price .1, tt))))))))))))
+        T-conj (orderConditions lastId lastStamp o) (a .0, (mark .0, (limit .0, (shares .0, (shares .1, (le→leb _ _ h, (life .0, (mark .1, (stamp .0, (stamp .1, (price .0, (price .1, (k, tt)))))))))))))
 
 -- the slide of a short, and that of another order
 
@@ -70,12 +70,23 @@ both-bits a b = bool-ext _ _ there back
         let g : b < 2 = omega (arith, leb→le b 1 (p .1)) in
         le→leb (bitOr a b) 1 (omega (arith, or-lt 1 a b f g))
 
-pub four-bits : (a b c d : ℕ) → leb (bitOr a (bitOr b (bitOr c d))) 1 ≡ (leb a 1 && (leb b 1 && (leb c 1 && leb d 1)))
-four-bits a b c d =
-    both-bits a _ ∙ ap (λ (x : Bool). leb a 1 && x) (both-bits b _ ∙ ap (λ (x : Bool). leb b 1 && x) (both-bits c d))
+pub five-bits : (a b c d e : ℕ) → leb (bitOr a (bitOr b (bitOr c (bitOr d e)))) 1 ≡ (leb a 1 && (leb b 1 && (leb c 1 && (leb d 1 && leb e 1))))
+five-bits a b c d e =
+    both-bits a _ ∙ ap (λ (x : Bool). leb a 1 && x) (both-bits b _ ∙ ap (λ (x : Bool). leb b 1 && x) (both-bits c _ ∙ ap (λ (x : Bool). leb c 1 && x) (both-bits d e)))
 
 module _ (lastId lastStamp : ℕ) (w : List ℕ) (i : ℕ) where
+  -- what holds of a place that is sound
+  sound-flags : T (soundAt lastId lastStamp w i) → T (flagsAt w i) × MayRest lastId lastStamp (orderAt w i)
+  unfolding soundAt
+  sound-flags t =
+      let p = and-T (flagsAt w i) _ t in
+      (p .0, order-mayRest lastId lastStamp (orderAt w i) (and-T (ltb (idBefore w i) (word w i 0)) _ (p .1) .1))
+
   pub unsound-bits : bitsAt w i ≡ false → soundAt lastId lastStamp w i ≡ false
-  unfolding bitsAt soundAt
+  unfolding bitsAt
   unsound-bits e =
-      bool-ext _ _ (λ t. let p = and-T (flagsAt w i) _ t in let q = and-T (ltb (idBefore w i) (word w i 0)) _ (p .1) in subst T e (T-and (leb (word w i 4) 1) _ (le→leb _ _ (order-mayRest lastId lastStamp (orderAt w i) (q .1) .works .fields .show)) (p .0))) (λ t. absurd t)
+      bool-ext _ _ (λ t. let p = sound-flags t in subst T e (T-and (leb (word w i 4) 1) _ (le→leb _ _ (p .1 .works .fields .show)) (p .0))) (λ t. absurd t)
+
+  pub unsound-market : marketAt w i ≡ false → soundAt lastId lastStamp w i ≡ false
+  unfolding marketAt
+  unsound-market e = bool-ext _ _ (λ t. subst T e (sound-flags t .1 .works .fields .market)) (λ t. absurd t)

@@ -63,13 +63,13 @@ flag-small : (b : Bool) (n : ℕ) → n ≡ flagWord b → n ≤ 1
 flag-small true n e = omega arith
 flag-small false n e = omega arith
 
--- what holds at 10, 11 and 12
-pub at-flags : (P : ℕ → Type 0) → P 10 → P 11 → P 12 → (k : ℕ) → firstFlag ≤ k → k < pastFlags → P k
-at-flags P a b c k l h =
-    by-order k 11 (λ m. subst P {x = 10} (omega arith) a) (λ m. by-order k 12 (λ n. subst P {x = 11} (omega arith) b) (λ n. subst P {x = 12} (omega arith) c))
+-- what holds at 10 to 13
+pub at-flags : (P : ℕ → Type 0) → P 10 → P 11 → P 12 → P 13 → (k : ℕ) → firstFlag ≤ k → k < pastFlags → P k
+at-flags P a b c d k l h =
+    by-order k 11 (λ m. subst P {x = 10} (omega arith) a) (λ m. by-order k 12 (λ n. subst P {x = 11} (omega arith) b) (λ n. by-order k 13 (λ q. subst P {x = 12} (omega arith) c) (λ q. subst P {x = 13} (omega arith) d)))
 
-pub row-is : (o : Order) (a u c : ℕ) → a ≡ flagWord (o .adjusted) → u ≡ flagWord (o .used) → c ≡ flagWord (o .clear) → Row (o.id ∷ o.mark ∷ o.limit ∷ o.shares ∷ o.show ∷ o.life ∷ o.slide ∷ o.stamp ∷ o.price ∷ o .«entry_bid» ∷ a ∷ u ∷ c ∷ []) o
-row-is o a u c p q r =
+pub row-is : (o : Order) (a u c m : ℕ) → a ≡ flagWord (o .adjusted) → u ≡ flagWord (o .used) → c ≡ flagWord (o .clear) → m ≡ flagWord (o .market) → Row (o.id ∷ o.mark ∷ o.limit ∷ o.shares ∷ o.show ∷ o.life ∷ o.slide ∷ o.stamp ∷ o.price ∷ o .«entry_bid» ∷ a ∷ u ∷ c ∷ m ∷ []) o
+row-is o a u c m p q r t =
     record {
       is =
           λ i. record {
@@ -86,12 +86,14 @@ row-is o a u c p q r =
             adjusted = flag-back (o .adjusted) a p i;
             used = flag-back (o .used) u q i;
             clear = flag-back (o .clear) c r i;
+            market = flag-back (o .market) m t i;
           };
       flags =
-          at-flags (λ (k : ℕ). getD (o.id ∷ o.mark ∷ o.limit ∷ o.shares ∷ o.show ∷ o.life ∷ o.slide ∷ o.stamp ∷ o.price ∷ o .«entry_bid» ∷ a ∷ u ∷ c ∷ []) k 0 ≤ 1)
+          at-flags (λ (k : ℕ). getD (o.id ∷ o.mark ∷ o.limit ∷ o.shares ∷ o.show ∷ o.life ∷ o.slide ∷ o.stamp ∷ o.price ∷ o .«entry_bid» ∷ a ∷ u ∷ c ∷ m ∷ []) k 0 ≤ 1)
           (flag-small (o .adjusted) a p)
           (flag-small (o .used) u q)
-          (flag-small (o .clear) c r);
+          (flag-small (o .clear) c r)
+          (flag-small (o .market) m t);
     }
 
 -- the layout test

@@ -20,4 +20,5 @@ recordOf o =
       adjusted = flagWord (o .adjusted);
       used = flagWord (o .used);
       clear = flagWord (o .clear);
+      market = flagWord (o .market);
     }

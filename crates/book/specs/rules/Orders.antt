@@ -28,6 +28,7 @@ reduced q o =
       adjusted = o.adjusted;
       used = o.used;
       clear = o.clear;
+      market = o.market;
     }
 
 -- the order that rests under an id

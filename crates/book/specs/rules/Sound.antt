@@ -15,6 +15,10 @@ mostShares = 1_000_000
 abbrev pub slideAllowed : ℕ → ℕ → Bool
 slideAllowed mark slide = leb slide 3 && (eqb slide 0 || eqb mark 2)
 
+-- No. 1: the record says that an order is a market short; "said of anything but a short with limit 1, that breaks the venue record"
+abbrev pub marketAllowed : Bool → ℕ → ℕ → Bool
+marketAllowed market mark limit = not market || (eqb mark 2 && eqb limit 1)
+
 -- "ids rising", all above k
 unfoldable pub idsRise : ℕ → List Order → Bool
 idsRise k [] = true
@@ -26,11 +30,12 @@ stampsDiffer [] = true
 stampsDiffer (o ∷ os) = every (λ (x : Order). not (eqb (o .stamp) (x .stamp))) os && stampsDiffer os
 
 -- "to the last id; prices and limits legal; shares and codes .. in range; slide 0 unless the mark is 2; each life 0; stamps .. from 1
--- to the last stamp; .. entry bids each a bid"
+-- to the last stamp; .. entry bids each a bid"; No. 1's condition on market shorts
 abbrev pub orderConditions : ℕ → ℕ → Order → List Bool
 orderConditions lastId lastStamp o =
     leb (o .id) lastId ∷ leb (o .mark) 3 ∷ legal (o .limit) ∷ leb 1 (o .shares) ∷ leb (o .shares) mostShares ∷ leb (o .show) 1 ∷ eqb (o .life) 0
-    ∷ slideAllowed (o .mark) (o .slide) ∷ leb 1 (o .stamp) ∷ leb (o .stamp) lastStamp ∷ legal (o .price) ∷ isBid (o .«entry_bid») ∷ []
+    ∷ slideAllowed (o .mark) (o .slide) ∷ leb 1 (o .stamp) ∷ leb (o .stamp) lastStamp ∷ legal (o .price) ∷ isBid (o .«entry_bid»)
+    ∷ marketAllowed (o .market) (o .mark) (o .limit) ∷ []
 
 unfoldable pub soundOrder : ℕ → ℕ → Order → Bool
 soundOrder lastId lastStamp o = conj (orderConditions lastId lastStamp o)

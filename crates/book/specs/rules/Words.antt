@@ -14,14 +14,14 @@ abbrev pub headerWords : ℕ
 headerWords = 16
 
 abbrev pub orderWidth : ℕ
-orderWidth = 13
+orderWidth = 14
 
 abbrev pub venueWords : ℕ
 venueWords = headerWords + 256 * orderWidth
 
 -- the number of this layout, and the header word that has it: words that were stored under another layout are no venue
 abbrev pub layoutNumber : ℕ
-layoutNumber = 1
+layoutNumber = 2
 
 abbrev pub layoutWord : ℕ
 layoutWord = 15
@@ -31,7 +31,7 @@ abbrev pub firstFlag : ℕ
 firstFlag = 10
 
 abbrev pub pastFlags : ℕ
-pastFlags = 13
+pastFlags = 14
 
 -- the order whose words these are, in the order of its fields; a flag is the word 0 or 1
 abbrev pub orderOf : List ℕ → Order
@@ -50,6 +50,7 @@ orderOf l =
       adjusted = eqb (getD l 10 0) 1;
       used = eqb (getD l 11 0) 1;
       clear = eqb (getD l 12 0) 1;
+      market = eqb (getD l 13 0) 1;
     }
 
 abbrev pub flagWord : Bool → ℕ

@@ -8,7 +8,7 @@ use lib.Dec.{leb, ltb, eqb}
 use lib.ListN.{getD}
 use Rattle.numbers.specs.Tests.{pick}
 use Rattle.prices.specs.Prices.{legal, isBid}
-use Rattle.book.specs.rules.Sound.{slideAllowed, soundOrder}
+use Rattle.book.specs.rules.Sound.{slideAllowed, marketAllowed, soundOrder}
 use Rattle.book.specs.rules.Words.{word, orderAt, flagsAt}
 
 -- the conditions on one order, in groups
@@ -21,6 +21,10 @@ codesSound mark life slide = eqb life 0 && (leb mark 3 && slideAllowed mark slid
 
 unfoldable pub pricesSound : ℕ → ℕ → ℕ → Bool
 pricesSound limit price bid = legal limit && (legal price && isBid bid)
+
+-- No. 1: a market flag at place i stands on a short with limit 1
+unfoldable pub marketAt : List ℕ → ℕ → Bool
+marketAt w i = marketAllowed (eqb (word w i 13) 1) (word w i 1) (word w i 2)
 
 -- stamps
 
@@ -49,7 +53,7 @@ abbrev pub idBefore : List ℕ → ℕ → ℕ
 idBefore w zero = 0
 idBefore w (suc i) = word w i 0
 
--- show and the three flags of place i are each 0 or 1
+-- show and the flags of place i are each 0 or 1
 unfoldable pub bitsAt : List ℕ → ℕ → Bool
 bitsAt w i = leb (word w i 4) 1 && flagsAt w i
 

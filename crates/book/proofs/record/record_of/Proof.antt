@@ -12,8 +12,11 @@ flag-word-requires-2 c κs = search needs
 flag-word-requires-3 : tie.Need-flag-word-requires-3
 flag-word-requires-3 c κs = search needs
 
+flag-word-requires-4 : tie.Need-flag-word-requires-4
+flag-word-requires-4 c κs = search needs
+
 returns : tie.Need-returns
-returns c = simp (c .before .before .flag-word .ensures, c .before .flag-word2 .ensures, c .flag-word3 .ensures)
+returns c = simp (c .before .before .before .flag-word .ensures, c .before .before .flag-word2 .ensures, c .before .flag-word3 .ensures, c .flag-word4 .ensures)
 
 pub record-of-spec : {M : Type 1} → statement M
-record-of-spec = tie.close (tie.spec flag-word-requires flag-word-requires-2 flag-word-requires-3 returns)
+record-of-spec = tie.close (tie.spec flag-word-requires flag-word-requires-2 flag-word-requires-3 flag-word-requires-4 returns)

@@ -1,4 +1,4 @@
--- `place_sound` by its three tests. Assumes nothing.
+-- `place_sound` by its tests. Assumes nothing.
 use mathlib.Core.Path.{_≡_, sym, ap₂, _∙_}
 use mathlib.Core.Bool.{true, false}
 use borrow.Author.Tests.{lt-ltb, le-ltb}
@@ -6,7 +6,7 @@ use lib.Dec.{T, leb, ltb, leb→le}
 use Rattle.book.specs.rules.Words.{word, flagsAt}
 use Rattle.book.specs.steps.RecordWalk.{bitsAt, idBefore, soundAt}
 use Rattle.numbers.proofs.TestLaws.{answered-T, T-true, and-T, and-yes, and-no}
-use Rattle.book.proofs.refinement.SoundOrderLaws.{unsound-bits}
+use Rattle.book.proofs.refinement.SoundOrderLaws.{unsound-bits, unsound-market}
 use borrow.Author.Needs.{needs}
 use Rattle.book.proofs.sound.place_sound.Statement.{statement}
 use Rattle.book.proofs.sound.place_sound.Tie as tie
@@ -22,19 +22,25 @@ bits-sound-requires c κs = search needs
 word-at-requires : tie.Need-word-at-requires
 word-at-requires c κs = search needs
 
+market-sound-requires : tie.Need-market-sound-requires
+market-sound-requires c κs = search needs
+
 order-sound-requires : tie.Need-order-sound-requires
-order-sound-requires c κs = let s = c .before .before .before .before .before in (s .pre .0, s .pre .1, leb→le _ _ (bits (c .before .before) .0))
+order-sound-requires c κs = let s = c .before .before .before .before .before .before .before in (s .pre .0, s .pre .1, leb→le _ _ (bits (c .before .before .before .before) .0), answered-T (c .before .market-sound .ensures) (c .if3 .taken))
 
 returns : tie.Need-returns
 unfolding soundAt
-returns c = let s = c .before .before .before .before .before .before in let w = s .args .w .now in let i = s .args .i in sym (and-yes _ (T-true (flagsAt w i) (bits (c .before .before .before) .1)) ∙ and-yes _ (let k : ltb (idBefore w i) (word w i 0) ≡ true = ap₂ ltb (sym (s .pre .2)) (sym (c .before .before .word-at .ensures)) ∙ lt-ltb (s .args .before) (c .before .before .word-at .result) (c .before .if2 .taken) in k) ∙ sym (c .order-sound .ensures))
+returns c = let s = c .before .before .before .before .before .before .before .before in let w = s .args .w .now in let i = s .args .i in let id = c .before .before .before .before .word-at in sym (and-yes _ (T-true (flagsAt w i) (bits (c .before .before .before .before .before) .1)) ∙ and-yes _ (let k : ltb (idBefore w i) (word w i 0) ≡ true = ap₂ ltb (sym (s .pre .2)) (sym (id .ensures)) ∙ lt-ltb (s .args .before) (id .result) (c .before .before .before .if2 .taken) in k) ∙ sym (c .order-sound .ensures))
 
 returns-2 : tie.Need-returns-2
-unfolding soundAt
-returns-2 c = let s = c .before .before .before .before .before in let w = s .args .w .now in let i = s .args .i in sym (and-yes _ (T-true (flagsAt w i) (bits (c .before .before) .1)) ∙ and-no _ (let k : ltb (idBefore w i) (word w i 0) ≡ false = ap₂ ltb (sym (s .pre .2)) (sym (c .before .word-at .ensures)) ∙ le-ltb (s .args .before) (c .before .word-at .result) (c .if2 .left) in k))
+returns-2 c = let s = c .before .before .before .before .before .before .before in let w = s .args .w .now in let i = s .args .i in sym (unsound-market (s .args .last-id) (s .args .last-stamp) w i (sym (c .before .market-sound .ensures) ∙ c .if3 .left))
 
 returns-3 : tie.Need-returns-3
-returns-3 c = let s = c .before .before .before in let w = s .args .w .now in let i = s .args .i in sym (unsound-bits (s .args .last-id) (s .args .last-stamp) w i (sym (c .before .bits-sound .ensures) ∙ c .if1 .left))
+unfolding soundAt
+returns-3 c = let s = c .before .before .before .before .before in let w = s .args .w .now in let i = s .args .i in sym (and-yes _ (T-true (flagsAt w i) (bits (c .before .before) .1)) ∙ and-no _ (let k : ltb (idBefore w i) (word w i 0) ≡ false = ap₂ ltb (sym (s .pre .2)) (sym (c .before .word-at .ensures)) ∙ le-ltb (s .args .before) (c .before .word-at .result) (c .if2 .left) in k))
+
+returns-4 : tie.Need-returns-4
+returns-4 c = let s = c .before .before .before in let w = s .args .w .now in let i = s .args .i in sym (unsound-bits (s .args .last-id) (s .args .last-stamp) w i (sym (c .before .bits-sound .ensures) ∙ c .if1 .left))
 
 pub place-sound-spec : {M : Type 1} → statement M
 place-sound-spec =
@@ -42,7 +48,9 @@ place-sound-spec =
     (tie.spec
     bits-sound-requires
     word-at-requires
+    market-sound-requires
     order-sound-requires
     returns
     returns-2
-    returns-3)
+    returns-3
+    returns-4)

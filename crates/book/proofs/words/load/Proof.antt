@@ -124,8 +124,17 @@ mul-t54 c = search needs
 shared-slice-read-t56 : tie.Need-shared-slice-read-t56
 shared-slice-read-t56 c = search needs
 
+add-t58 : tie.Need-add-t58
+add-t58 c = search needs
+
+mul-t59 : tie.Need-mul-t59
+mul-t59 c = search needs
+
+shared-slice-read-t61 : tie.Need-shared-slice-read-t61
+shared-slice-read-t61 c = search needs
+
 returns : tie.Need-returns
-returns c = let s = c .before .before .before .before .before .before .before .before .before .before .before .before .before in loaded (s .args .w .now) (s .args .i) (s .pre .1)
+returns c = let s = c .before .before .before .before .before .before .before .before .before .before .before .before .before .before in loaded (s .args .w .now) (s .args .i) (s .pre .1)
 
 pub load-spec : {M : Type 1} → statement M
 load-spec =
@@ -171,4 +180,7 @@ load-spec =
     add-t53
     mul-t54
     shared-slice-read-t56
+    add-t58
+    mul-t59
+    shared-slice-read-t61
     returns)
