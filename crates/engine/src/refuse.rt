@@ -8,13 +8,16 @@ use book::words;
 use prices::increments;
 ghost use mathlib.Core.Path.{_≡_};
 ghost use Prim.Native.Nat.{_≤_};
+ghost use mathlib.Core.Bool.{_||_};
 ghost use lib.ListN.{length};
 ghost use Rattle.numbers.specs.Tests.{conj};
+ghost use Rattle.prices.specs.Prices.{legal};
 ghost use Rattle.book.specs.rules.Words.{venueWords};
 ghost use Rattle.book.specs.steps.BookSteps.{Book};
 ghost use Rattle.engine.specs.declared.Event.the-variants.{Entry as entry};
+ghost use Rattle.engine.specs.rules.Working.{isMarket};
 ghost use Rattle.engine.specs.rules.Sound.{headerConditions};
-ghost use Rattle.engine.specs.rules.Refusals.{codesInRange, refusalOfKind};
+ghost use Rattle.engine.specs.rules.Refusals.{codesInRange, refusalOfTerms, refusalOfPlace, refusalOfKind};
 ghost use Rattle.engine.specs.rules.Layout.{venueOf, soundWords};
 ghost use Rattle.engine.specs.rules.Answers.{refusedWith};
 
@@ -38,29 +41,59 @@ fn codes_in_range(e: Entry) -> bool
     sound::slide_allowed(e.mark, e.slide)
 }
 
-pub(crate) fn entry_refusal(w: &[u32], e: Entry) -> MayRefuse
-    requires { ⌜ Book (now w) ⌝ }
-    ensures { λ r. ⌜ refusedWith r ≡ refusalOfKind (venueOf (now (w .entry))) (entry e) ⌝ }
+// Whether an entry may have a price: 0 means market.
+fn price_allowed(price: u32) -> bool
+    ensures { λ r. ⌜ r ≡ (isMarket price || legal price) ⌝ }
 {
-    if !increments::is_legal(e.price) {
+    if price == 0 {
+        return true;
+    }
+    increments::is_legal(price)
+}
+
+// The terms of an entry: price and shares.
+fn terms_refusal(price: u32, shares: u32) -> MayRefuse
+    ensures { λ r. ⌜ refusedWith r ≡ refusalOfTerms price shares ⌝ }
+{
+    if !price_allowed(price) {
         return MayRefuse::Refuse(Refusal::PriceNotLegal);
     }
-    if e.shares < 1 {
+    if shares < 1 {
         return MayRefuse::Refuse(Refusal::SharesOutOfRange);
     }
-    if e.shares > sound::MOST_SHARES {
+    if shares > sound::MOST_SHARES {
         return MayRefuse::Refuse(Refusal::SharesOutOfRange);
     }
-    if !codes_in_range(e) {
-        return MayRefuse::Refuse(Refusal::CodeOutOfRange);
-    }
-    if e.id <= words::header_word(w, header::LAST_ID) {
+    MayRefuse::Allow
+}
+
+// The place of an entry: its id, and room in the book.
+fn place_refusal(w: &[u32], id: u32) -> MayRefuse
+    requires { ⌜ Book (now w) ⌝ }
+    ensures { λ r. ⌜ refusedWith r ≡ refusalOfPlace (venueOf (now (w .entry))) id ⌝ }
+{
+    if id <= words::header_word(w, header::LAST_ID) {
         return MayRefuse::Refuse(Refusal::IdNotNew);
     }
     if words::count(w) >= words::PLACES {
         return MayRefuse::Refuse(Refusal::BookFull);
     }
     MayRefuse::Allow
+}
+
+pub(crate) fn entry_refusal(w: &[u32], e: Entry) -> MayRefuse
+    requires { ⌜ Book (now w) ⌝ }
+    ensures { λ r. ⌜ refusedWith r ≡ refusalOfKind (venueOf (now (w .entry))) (entry e) ⌝ }
+{
+    match terms_refusal(e.price, e.shares) {
+        MayRefuse::Refuse(refusal) => MayRefuse::Refuse(refusal),
+        MayRefuse::Allow => {
+            if !codes_in_range(e) {
+                return MayRefuse::Refuse(Refusal::CodeOutOfRange);
+            }
+            place_refusal(w, e.id)
+        }
+    }
 }
 
 fn header_sound(w: &[u32]) -> bool

@@ -19,7 +19,7 @@ ghost use Rattle.prices.specs.Prices.{isBid};
 ghost use Rattle.book.specs.rules.Words.{emptyOrder, resting};
 ghost use Rattle.book.specs.steps.BookSteps.{Book};
 ghost use Rattle.engine.specs.declared.Move.the-variants.{Reprice};
-ghost use Rattle.engine.specs.rules.Pass.{displayedClear, moveDown, slideOnce, slideDown, moveOf, atNewPrice, afterMove, passOver};
+ghost use Rattle.engine.specs.rules.Pass.{displayedClear, moveDown, slideOnce, slideDown, maySlide, moveOf, atNewPrice, afterMove, passOver};
 ghost use Rattle.engine.specs.steps.Memory.{Ordered, Room, Does, DoesEffect};
 ghost use Rattle.engine.specs.steps.Steps.{moveInPass, turnOf, idsOf, StartsWithIds};
 
@@ -57,7 +57,7 @@ fn slide_once(m: Market, o: Order) -> Move
     Move::Stay
 }
 
-// Where an adjusted order goes that need not move.
+// Where an order goes that may slide down.
 fn slide_down(m: Market, o: Order) -> Move
     requires { ⌜ T (isBid (m .bid)) ⌝ }
     ensures { λ r. ⌜ r ≡ slideDown m o ⌝ }
@@ -85,6 +85,19 @@ fn must_move(m: Market, o: Order) -> bool
     false
 }
 
+// Whether an order that need not move may slide down: it is adjusted, and no market short without a bid.
+fn may_slide(m: Market, o: Order) -> bool
+    ensures { λ r. ⌜ r ≡ maySlide m o ⌝ }
+{
+    if o.adjusted {
+        if o.market {
+            return m.bid != 0;
+        }
+        return true;
+    }
+    false
+}
+
 // Where a restricted order goes.
 fn move_of(m: Market, o: Order) -> Move
     requires { ⌜ T (isBid (m .bid)) ⌝ }
@@ -96,7 +109,7 @@ fn move_of(m: Market, o: Order) -> Move
         }
         return Move::Reprice(working::permitted_now(m), o.used);
     }
-    if o.adjusted {
+    if may_slide(m, o) {
         return slide_down(m, o);
     }
     Move::Stay

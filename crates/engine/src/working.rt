@@ -11,6 +11,7 @@ use book::priority;
 use book::trade;
 use book::words;
 use prices::PermittedAnswer;
+use prices::Price;
 use prices::increments;
 use prices::restriction;
 ghost use mathlib.Core.Path.{_≡_};
@@ -28,7 +29,7 @@ ghost use Rattle.engine.specs.rules.Market.{permittedNow};
 ghost use Rattle.engine.specs.rules.Reports.{executed};
 ghost use Rattle.engine.specs.rules.Records.{reportBytes};
 ghost use Rattle.engine.specs.rules.Working;
-ghost use Rattle.engine.specs.rules.Working.{workingPrice, orderOf, remainder};
+ghost use Rattle.engine.specs.rules.Working.{limitOf, followsBid, lifeOf, workingPrice, orderOf, remainder};
 ghost use Rattle.engine.specs.steps.Memory.{Ordered, Room, Does};
 ghost use Rattle.engine.specs.steps.Steps.{MayEnter, Meets, executionReports, Matches, restedOrCancelled};
 
@@ -75,15 +76,54 @@ pub(crate) fn permitted_now(m: Market) -> u32
     }
 }
 
-// The price that an entry works at.
-fn working_price(m: Market, e: Entry) -> u32
-    requires { ⌜ T (isBid (m .bid)) ⌝ }
-    ensures { λ r. ⌜ r ≡ workingPrice m e ⌝ }
+// What counts as the limit of an entry.
+fn limit_of(mark: u32, price: u32) -> u32
+    ensures { λ r. ⌜ r ≡ limitOf mark price ⌝ }
 {
-    if restricted(m, e.mark) {
-        return larger(e.price, permitted_now(m));
+    if price == 0 {
+        if mark == 0 {
+            return Price::HIGHEST;
+        }
+        return 1;
     }
-    e.price
+    price
+}
+
+// Whether an entry is a market short, which follows the bid.
+fn follows_bid(m: Market, mark: u32, price: u32) -> bool
+    ensures { λ r. ⌜ r ≡ followsBid m mark price ⌝ }
+{
+    if price == 0 {
+        if restricted(m, mark) {
+            return 0 < m.bid;
+        }
+    }
+    false
+}
+
+// What counts as the life of an entry.
+fn life_of(m: Market, mark: u32, price: u32, life: u32) -> u32
+    ensures { λ r. ⌜ r ≡ lifeOf m mark price life ⌝ }
+{
+    if price == 0 {
+        if follows_bid(m, mark, price) {
+            return life;
+        }
+        return 1;
+    }
+    life
+}
+
+// The price that an entry works at.
+fn working_price(m: Market, mark: u32, price: u32) -> u32
+    requires { ⌜ T (isBid (m .bid)) ⌝ }
+    ensures { λ r. ⌜ r ≡ workingPrice m mark price ⌝ }
+{
+    let limit = limit_of(mark, price);
+    if restricted(m, mark) {
+        return larger(limit, permitted_now(m));
+    }
+    limit
 }
 
 // The order of an entry, with its stamp.
@@ -91,21 +131,25 @@ pub(crate) fn order_of(m: Market, stamp: u32, e: Entry) -> Order
     requires { ⌜ T (isBid (m .bid)) ⌝ }
     ensures { λ r. ⌜ r ≡ orderOf m stamp e ⌝ }
 {
-    let price = working_price(m, e);
+    let price = working_price(m, e.mark, e.price);
+    let limit = limit_of(e.mark, e.price);
+    let life = life_of(m, e.mark, e.price, e.life);
+    let market = follows_bid(m, e.mark, e.price);
     Order {
         id: e.id,
         mark: e.mark,
-        limit: e.price,
+        limit,
         shares: e.shares,
         show: e.show,
-        life: e.life,
+        life,
         slide: e.slide,
         stamp,
         price,
         entry_bid: m.bid,
-        adjusted: e.price < price,
+        adjusted: limit < price,
         used: false,
         clear: m.bid < price,
+        market,
     }
 }
 

@@ -220,3 +220,10 @@ permitted-rises b c s t h = go (bid-out c t)
     go : (c ≡ 0) ⊎ (Legal c × (c ≤ highestBid)) → permitted b < permitted c
     go (inl x) = absurd (omega arith)
     go (inr x) = omega (arith, permitted-next b c s (legal-in c (x .0)) h, permitted-above c)
+
+-- the prices that market orders work at
+pub highest-legal : T (legal highest)
+highest-legal = legal-in highest (record { low = omega arith; high = omega arith; onStep = inr refl })
+
+pub one-legal : T (legal 1)
+one-legal = legal-in 1 (record { low = omega arith; high = omega arith; onStep = inl (omega arith) })

@@ -31,7 +31,7 @@ use Rattle.engine.specs.rules.Market.{marketAfter}
 use Rattle.engine.specs.rules.Reports.{Report, accepted, executed, cancelled, repriced, restrictionStarts, dayEnded}
 use Rattle.engine.specs.rules.Working.{orderOf, remainder, afterRemainder, work}
 use Rattle.engine.specs.rules.Pass.{Effect, atNewPrice, afterMove, passOne, passOver}
-use Rattle.engine.specs.rules.Venue.{Venue, effectOfEntry, effectOfCancel, thePass, restrictionReport, cancelledAtEnd, effectOfDayEnd, effectOf, lastIdAfter}
+use Rattle.engine.specs.rules.Venue.{Venue, entering, effectOfEntry, effectOfCancel, thePass, restrictionReport, cancelledAtEnd, effectOfDayEnd, effectOf, lastIdAfter}
 use Rattle.engine.specs.rules.Sound.{mostOrders}
 use Rattle.engine.specs.rules.Refusals.{leastBuffer, refusal}
 use Rattle.engine.specs.rules.Run.{stepUnless, step}
@@ -165,7 +165,7 @@ module _ (v : Venue) (g : SoundVenue v) where
       omega (arith, g .book .few, length-map (v .orders) idOf, passOver-most m t (v .lastId) (map idOf (v .orders)) (v .orders) (v .lastStamp) (g .book))
 
   effectOf-most : (e : Event) → Allowed v e → mostOf ((effectOf (marketAfter e (v .market)) v e) .reports) ≤ leastBuffer
-  unfolding effectOf effectOfEntry effectOfCancel effectOfDayEnd restrictionReport
+  unfolding effectOf entering effectOfEntry orderOf effectOfCancel effectOfDayEnd restrictionReport
   effectOf-most (entry e) f =
       omega (arith, work-most (orderOf (v .market) (v .lastStamp + 1) e) (v .orders) (orderOf-sound v e f g), g .book .few)
   effectOf-most (cancel j) f = omega arith

@@ -25,9 +25,9 @@ use Rattle.engine.specs.declared.Move.{Move}
 use Rattle.engine.specs.declared.Move.the-variants.{Stay, Cancel, Reprice}
 use Rattle.engine.specs.rules.Market.{marketAfter}
 use Rattle.engine.specs.rules.Reports.{Report, executed, cancelled, optOut, endOfDay}
-use Rattle.engine.specs.rules.Working.{remainder, afterRemainder, work}
+use Rattle.engine.specs.rules.Working.{orderOf, remainder, afterRemainder, work}
 use Rattle.engine.specs.rules.Pass.{Effect, afterMove, passOne, passOver}
-use Rattle.engine.specs.rules.Venue.{Venue, effectOfEntry, effectOfCancel, thePass, restrictionReport, cancelledAtEnd, effectOfDayEnd, effectOf, lastIdAfter}
+use Rattle.engine.specs.rules.Venue.{Venue, entering, effectOfEntry, effectOfCancel, thePass, restrictionReport, cancelledAtEnd, effectOfDayEnd, effectOf, lastIdAfter}
 use Rattle.engine.specs.rules.Sound.{mostEvents}
 use Rattle.engine.specs.rules.Refusals.{rests}
 use Rattle.engine.specs.claims.RoundTrips.{Word, ReportWords}
@@ -137,9 +137,9 @@ module _ (v : Venue) (g : SoundVenue v) (l : v.acceptedEvents < mostEvents) (i :
       ((omega arith, (omega (arith, f .1, h .id), (omega (arith, h .shares), (omega arith, tt)))), tt)
 
   effectOf-words : (e : Event) → Allowed v e → Word (lastIdAfter v e) → All ReportWords ((effectOf (marketAfter e (v .market)) v e) .reports)
-  unfolding effectOf effectOfEntry effectOfDayEnd restrictionReport
+  unfolding effectOf entering effectOfEntry orderOf effectOfDayEnd restrictionReport
   effectOf-words (entry e) f k =
-      ((omega arith, (k, (omega (arith, g .stamps), (legal-word _ (workingPrice-legal (v .market) e (f .price) (g .market .bid)), tt)))), work-words k _ (v .orders) (orderOf-sound v e f g))
+      ((omega arith, (k, (omega (arith, g .stamps), (legal-word _ (workingPrice-legal (v .market) (e .mark) (e .price) (f .terms .limit) (g .market .bid)), tt)))), work-words k _ (v .orders) (orderOf-sound v e f g))
   effectOf-words (cancel j) f k = cancel-words j (find j (v .orders)) (find-found j (v .orders)) f
   effectOf-words (bid b) f k = thePass-words (marketAfter (bid b) (v .market)) f
   effectOf-words (tape p) f k =
@@ -152,7 +152,7 @@ module _ (v : Venue) (g : SoundVenue v) (l : v.acceptedEvents < mostEvents) (i :
 
 -- the last id doesn't fall
 lastId-word : (v : Venue) (e : Event) → Allowed v e → Word (lastIdAfter v e) → Word (v .lastId)
-lastId-word v (entry e) f k = omega (arith, f .newId)
+lastId-word v (entry e) f k = omega (arith, f .place .newId)
 lastId-word v (cancel i) f k = k
 lastId-word v (bid b) f k = k
 lastId-word v (tape p) f k = k

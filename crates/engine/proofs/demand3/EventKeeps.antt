@@ -20,7 +20,7 @@ use Rattle.engine.specs.declared.Event.the-variants.{Entry as entry, Can
 use Rattle.engine.specs.rules.Market.{restricted, marketAfter}
 use Rattle.engine.specs.rules.Reports.{Report, cancelled, dayEnded, endOfDay}
 use Rattle.engine.specs.rules.Working.{workingPrice, orderOf}
-use Rattle.engine.specs.rules.Venue.{Venue, opened, effectOfEntry, effectOfCancel, thePass, restrictionReport, effectOfTape, effectOfDayEnd, effectOf, lastIdAfter}
+use Rattle.engine.specs.rules.Venue.{Venue, opened, entering, effectOfEntry, effectOfCancel, thePass, restrictionReport, effectOfTape, effectOfDayEnd, effectOf, lastIdAfter}
 use Rattle.engine.specs.rules.Refusals.{refusal}
 use Rattle.engine.specs.rules.Run.{stepUnless, step, Call, run}
 use Rattle.engine.specs.claims.Account.{Tallies, givePrice, startTally, talliesAfter, readReport, Account, freshAccount, accountAfter, accountFrom}
@@ -33,10 +33,10 @@ use Rattle.engine.proofs.demand3.PassKeeps.{thePass-keeps}
 
 -- an entry
 
-workingPrice-above : (m : Market) (e : Entry) → T (restricted m (e .mark)) → m.bid < workingPrice m e
+workingPrice-above : (m : Market) (mark price : ℕ) → T (restricted m mark) → m.bid < workingPrice m mark price
 unfolding workingPrice
-workingPrice-above m e t =
-    by-test (λ (x : ℕ). m.bid < x) _ (λ s. omega (arith, permittedNow-above m)) (λ s. absurd (T-not (restricted m (e .mark)) s t))
+workingPrice-above m mark price t =
+    by-test (λ (x : ℕ). m.bid < x) _ (λ s. omega (arith, permittedNow-above m)) (λ s. absurd (T-not (restricted m mark) s t))
 
 module _ (n : ℕ) (os : List Order) (c : Tallies) (e : Entry) (new : n < e.id) (h : TalliesAgree n os c) where
   abbrev started : Tallies
@@ -58,24 +58,24 @@ module _ (n : ℕ) (os : List Order) (c : Tallies) (e : Entry) (new : n < e.id) 
       go (no z) =
           omega (arith, setAt-other (e .id) (e .shares) (c .entered) k z, setAt-other (e .id) 0 (c .executed) k z, setAt-other (e .id) 0 (c .cancelled) k z, h .shares k, ifSame-other k (e .id) (e .shares) z)
 
-  entered-agree : (m : Market) (s : ℕ) → TalliesAgree (e .id) (orderOf m s e ∷ os) (givePrice (m .bid) (e .id) (workingPrice m e) started)
+  entered-agree : (m : Market) (s : ℕ) → TalliesAgree (e .id) (orderOf m s e ∷ os) (givePrice (m .bid) (e .id) (workingPrice m (e .mark) (e .price)) started)
   unfolding orderOf
   entered-agree m s =
       record {
-        known = (givePrice-own (e .id) (m .bid) started (orderOf m s e) (omega arith) (setAt-same (e .id) (e .mark) (c .mark)) (setAt-same (e .id) (e .show) (c .show)) (λ t. omega tests), givePrice-others (e .id) (m .bid) started (e .id) (workingPrice m e) os others started-others);
+        known = (givePrice-own (e .id) (m .bid) started (orderOf m s e) (omega arith) (setAt-same (e .id) (e .mark) (c .mark)) (setAt-same (e .id) (e .show) (c .show)) (λ t. omega tests), givePrice-others (e .id) (m .bid) started (e .id) (workingPrice m (e .mark) (e .price)) os others started-others);
         distinct = (others, h .distinct);
         shares = λ k. omega (arith, started-shares k, shares-first k (orderOf m s e) os);
         executions = h.executions;
       }
 
 entry-keeps : (m : Market) (v : Venue) (c : Tallies) (e : Entry) → v.lastId < e.id → BookAgrees (v .lastId) (v .orders) c → All (SafelyPriced m) (v .orders) → EffectAgrees m (e .id) (effectOfEntry m v e) (startTally e c)
-unfolding effectOfEntry orderOf
+unfolding entering effectOfEntry orderOf
 entry-keeps m v c e new h s =
-    let i : WhileWorking m (e .id) (orderOf m (v .lastStamp + 1) e) (v .orders) (givePrice (m .bid) (e .id) (workingPrice m e) (startTally e c)) = record {
+    let i : WhileWorking m (e .id) (orderOf m (v .lastStamp + 1) e) (v .orders) (givePrice (m .bid) (e .id) (workingPrice m (e .mark) (e .price)) (startTally e c)) = record {
       tallies = entered-agree (v .lastId) (v .orders) c e new (h .tallies) m (v .lastStamp + 1);
       uncrossed = h.uncrossed;
       working = refl;
-      above = workingPrice-above m e;
+      above = workingPrice-above m (e .mark) (e .price);
       safe = λ z. s;
     } in
     (work-keeps m (e .id) _ (v .orders) _ i, work-all (SafelyPriced m) (λ z q k. k) _ (v .orders) (h .tallies .distinct) (λ r. inl (i .above r)) s)
@@ -113,7 +113,7 @@ dayEnd-keeps m n v c h = (record { tallies = allCancelled-agree m n _ (v .orders
 
 effect-keeps : (v : Venue) (c : Tallies) (e : Event) → Allowed v e → BookAgrees (v .lastId) (v .orders) c → All (SafelyPriced (v .market)) (v .orders) → let m : Market = marketAfter e (v .market) in EffectAgrees m (lastIdAfter v e) (effectOf m v e) (talliesAfter e c)
 unfolding effectOf
-effect-keeps v c (entry e) a h s = entry-keeps (v .market) v c e (a .newId) h s
+effect-keeps v c (entry e) a h s = entry-keeps (v .market) v c e (a .place .newId) h s
 effect-keeps v c (cancel i) a h s = cancel-keeps (v .market) (v .lastId) v c i h s
 effect-keeps v c (bid b) a h s = thePass-keeps _ (v .lastId) v c h
 effect-keeps v c (tape p) a h s = tape-keeps _ (v .lastId) v c h

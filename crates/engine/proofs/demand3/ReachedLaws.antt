@@ -8,11 +8,12 @@ use mathlib.Core.List.{List, [], _∷_}
 use lib.Dec.{T, T-not}
 use Rattle.numbers.specs.Answers.{refuses, gives}
 use Rattle.prices.specs.Prices.{legal}
+use Rattle.engine.specs.declared.Entry.{Entry}
 use Rattle.engine.specs.declared.Event.{Event}
 use Rattle.engine.specs.declared.Event.the-variants.{Entry as entry, Cancel as cancel, Bid as bid, Tape as tape, DayEnd as dayEnd}
 use Rattle.engine.specs.rules.Venue.{Venue, opened, opening}
 use Rattle.engine.specs.rules.Sound.{sound}
-use Rattle.engine.specs.rules.Refusals.{refuseUnless, refusalOfKind, refusal}
+use Rattle.engine.specs.rules.Refusals.{refuseUnless, firstOf, refusalOfTerms, refusalOfCodes, refusalOfPlace, refusalOfKind, refusal}
 use Rattle.engine.specs.rules.Run.{stepUnless, step, Call, run}
 use Rattle.engine.specs.claims.Reached.{ReachedIsSound, StampsBounded}
 use Rattle.engine.proofs.refinement.RefusalLaws.{NotRefused, Unless, refusal-known}
@@ -64,10 +65,19 @@ unfolding refuseUnless
 refuseUnless-not true n later h k = k
 refuseUnless-not false n later h k = h tt
 
+firstOf-not : (r later : Option ℕ) → Refused r → Refused later → Refused (firstOf r later)
+unfolding firstOf
+firstOf-not none later h k = k
+firstOf-not (some n) later h k = h
+
+refusalOfEntry-not : (v : Venue) (e : Entry) → Refused (refusalOfKind v (entry e))
+unfolding refusalOfKind refusalOfTerms refusalOfCodes refusalOfPlace
+refusalOfEntry-not v e =
+    firstOf-not _ _ (refuseUnless-not _ _ _ (λ t. (λ z. omega arith, omega arith, omega arith)) (refuseUnless-not _ _ _ (λ t. (λ z. omega arith, omega arith, omega arith)) (refuseUnless-not _ _ none (λ t. (λ z. omega arith, omega arith, omega arith)) tt))) (firstOf-not _ _ (refuseUnless-not _ _ none (λ t. (λ z. omega arith, omega arith, omega arith)) tt) (refuseUnless-not _ _ _ (λ t. (λ z. omega arith, omega arith, omega arith)) (refuseUnless-not _ _ none (λ t. (λ z. omega arith, omega arith, omega arith)) tt)))
+
 refusalOfKind-not : (v : Venue) (e : Event) → Refused (refusalOfKind v e)
 unfolding refusalOfKind
-refusalOfKind-not v (entry e) =
-    refuseUnless-not _ _ _ (λ t. (λ z. omega arith, omega arith, omega arith)) (refuseUnless-not _ _ _ (λ t. (λ z. omega arith, omega arith, omega arith)) (refuseUnless-not _ _ _ (λ t. (λ z. omega arith, omega arith, omega arith)) (refuseUnless-not _ _ _ (λ t. (λ z. omega arith, omega arith, omega arith)) (refuseUnless-not _ _ _ (λ t. (λ z. omega arith, omega arith, omega arith)) (refuseUnless-not _ _ none (λ t. (λ z. omega arith, omega arith, omega arith)) tt)))))
+refusalOfKind-not v (entry e) = refusalOfEntry-not v e
 refusalOfKind-not v (cancel i) = refuseUnless-not _ _ none (λ t. (λ z. omega arith, omega arith, omega arith)) tt
 refusalOfKind-not v (bid b) = refuseUnless-not _ _ none (λ t. (λ z. omega arith, omega arith, omega arith)) tt
 refusalOfKind-not v (tape p) = refuseUnless-not _ _ none (λ t. (λ z. omega arith, omega arith, omega arith)) tt

@@ -1,21 +1,21 @@
 -- The conditions of a venue record as facts, and that no event breaks those of the book and the market. Assumes nothing.
 use Prim.Native.Nat.{ℕ, _+_, _*_, _≤_, _<_, min}
 use native.Mathlib.Omega.{arith}
-use mathlib.Core.Path.{_≡_, refl}
-use mathlib.Core.Bool.{Bool, true}
+use mathlib.Core.Path.{_≡_, refl, sym, subst}
+use mathlib.Core.Bool.{Bool, true, false}
 use mathlib.Core.Option.{Option, none, some}
 use mathlib.Core.List.{List, [], _∷_, map, List·Memᴰ}
-use lib.Dec.{T, leb→le, le→leb, eqb→eq}
+use lib.Dec.{T, eqb, leb→le, le→leb, eqb→eq, T-not}
 use lib.ListN.{length, length-map}
 use Rattle.numbers.specs.Tests.{pick, All}
-use Rattle.numbers.proofs.TestLaws.{by-test, Each, conj-T, T-conj, every-T, T-every, neqb, tests, all-map}
+use Rattle.numbers.proofs.TestLaws.{by-test, and-T, T-and, eq→T, Each, conj-T, T-conj, every-T, T-every, neqb, tests, all-map}
 use Rattle.prices.specs.Prices.{legal, isBid}
 use Rattle.prices.proofs.RestrictionLaws.{tape-phase, day-end-phase}
 use Rattle.prices.proofs.PriceLaws.{no-bid, max-legal, permitted-legal, max-bid-legal}
 use Rattle.book.specs.declared.Order.{Order}
 use Rattle.book.specs.rules.Orders.{find, without}
 use Rattle.book.specs.rules.Matching.{Matched, meeting, matching, afterTrade}
-use Rattle.book.specs.rules.Sound.{soundOrder}
+use Rattle.book.specs.rules.Sound.{soundOrder, marketAllowed}
 use Rattle.book.proofs.definitions.OrderLaws.{idOf, stampOf, Other, Differ, Distinct, taken-all, all-taken, differ-taken, taken-length, mem-taken, insert-taken, without-all, without-other, without-differ, without-length, Found, find-found}
 use Rattle.book.proofs.definitions.RisingLaws.{Rises, idsRise-rises, rises-idsRise, rises-all, rises-distinct, rises-without, rises-insert, rises-afterTrade}
 use Rattle.book.proofs.refinement.SoundBookLaws.{stampsDiffer-differ, differ-stampsDiffer}
@@ -30,14 +30,15 @@ use Rattle.engine.specs.declared.Remainder.the-variants.{Filled, Cancell
 use Rattle.engine.specs.declared.Move.{Move}
 use Rattle.engine.specs.declared.Move.the-variants.{Stay, Cancel, Reprice}
 use Rattle.engine.specs.rules.Market.{marketAfter, restricted, permittedNow}
-use Rattle.engine.specs.rules.Working.{workingPrice, orderOf, remainder, afterRemainder, work}
+use Rattle.engine.specs.rules.Working.{isMarket, limitOf, followsBid, lifeOf, workingPrice, orderOf, remainder, afterRemainder, work}
 use Rattle.engine.specs.rules.Pass.{moveDown, slideOnce, slideDown, moveOf, atNewPrice, Effect, afterMove, passOne, passOver}
-use Rattle.engine.specs.rules.Venue.{Venue, thePass, effectOfEntry, effectOfCancel, effectOfDayEnd, effectOf, lastIdAfter}
+use Rattle.engine.specs.rules.Venue.{Venue, thePass, entering, effectOfEntry, effectOfCancel, effectOfDayEnd, effectOf, lastIdAfter}
 use Rattle.engine.specs.rules.Sound.{mostOrders, mostEvents, venueConditions, sound}
 use Rattle.engine.specs.rules.Refusals.{entryCodes, codesInRange}
 use Rattle.book.proofs.refinement.SoundBookLaws.{stampsDiffer-differ, differ-stampsDiffer}
 use Rattle.book.proofs.definitions.OrderConditionLaws.{FieldsSound, MayWork, MayRest, mayWork-reduced, mayRest-later, order-mayRest, mayRest-order}
 use Rattle.engine.proofs.refinement.RefusalLaws.{Allowed}
+use Rattle.engine.proofs.demand3.MarketLaws.{restricted-mark}
 
 -- the book
 
@@ -250,30 +251,53 @@ venue-sound v g =
 
 -- events
 
-pub workingPrice-legal : (m : Market) (e : Entry) → T (legal (e .price)) → T (isBid (m .bid)) → T (legal (workingPrice m e))
-unfolding workingPrice
-workingPrice-legal m e h t =
-    by-test (λ (p : ℕ). T (legal p)) _ (λ r. max-legal (e .price) (permittedNow m) h (permittedNow-legal m t)) (λ r. h)
+module _ (m : Market) (mark price : ℕ) where
+  pub workingPrice-legal : T (legal (limitOf mark price)) → T (isBid (m .bid)) → T (legal (workingPrice m mark price))
+  unfolding workingPrice
+  workingPrice-legal h t =
+      by-test (λ (p : ℕ). T (legal p)) _ (λ r. max-legal (limitOf mark price) (permittedNow m) h (permittedNow-legal m t)) (λ r. h)
+
+  life-code : (life : ℕ) → life ≤ 1 → lifeOf m mark price life ≤ 1
+  unfolding lifeOf
+  life-code life h = by-test (λ (x : ℕ). x ≤ 1) _ (λ t. omega arith) (λ t. h)
+
+  -- what follows the bid is a short with limit 1
+  follows-short : T (followsBid m mark price) → (mark ≡ 2) × (limitOf mark price ≡ 1)
+  unfolding followsBid limitOf
+  follows-short t =
+      let a = and-T (isMarket price) _ t in
+      let b = restricted-mark m mark (and-T (restricted m mark) _ (a .1) .0) in
+      (b, by-test (λ (x : ℕ). x ≡ 1) _ (λ y. by-test (λ (x : ℕ). x ≡ 1) _ (λ z. absurd (omega tests)) (λ z. refl)) (λ y. absurd (T-not (isMarket price) y (a .0))))
+
+  follows-allowed : T (marketAllowed (followsBid m mark price) mark (limitOf mark price))
+  follows-allowed = go (followsBid m mark price) refl
+    where
+      go : (b : Bool) → followsBid m mark price ≡ b → T (marketAllowed b mark (limitOf mark price))
+      go false e = tt
+      go true e = let k = follows-short (subst T (sym e) tt) in T-and (eqb mark 2) _ (eq→T (k .0)) (eq→T (k .1))
 
 pub orderOf-sound : (v : Venue) (e : Entry) → Allowed v (entry e) → SoundVenue v → SoundWork (e .id) (v .lastStamp + 1) (orderOf (v .market) (v .lastStamp + 1) e) (v .orders)
 unfolding orderOf codesInRange
 orderOf-sound v e f g =
     let c = conj-T (entryCodes e) (f .codes) in
+    let m = v .market in
+    let t = f .terms in
+    let p = f .place in
     record {
-      book = book-later (g .book) (e .id) (v .lastStamp + 1) (omega (arith, f .newId)) (omega arith);
-      room = f .room;
+      book = book-later (g .book) (e .id) (v .lastStamp + 1) (omega (arith, p .newId)) (omega arith);
+      room = p .room;
       works =
           record {
-            fields = record { mark = leb→le _ _ (c .0); limit = f .price; show = leb→le _ _ (c .1 .0); life = leb→le _ _ (c .1 .1 .0); slide = c .1 .1 .1 .0; entryBid = g .market .bid };
+            fields = record { mark = leb→le _ _ (c .0); limit = t .limit; show = leb→le _ _ (c .1 .0); life = life-code m (e .mark) (e .price) (e .life) (leb→le _ _ (c .1 .1 .0)); slide = c .1 .1 .1 .0; entryBid = g .market .bid; market = follows-allowed m (e .mark) (e .price) };
             id = omega arith;
             first = omega arith;
             last = omega arith;
-            price = workingPrice-legal (v .market) e (f .price) (g .market .bid);
-            most = f .most;
+            price = workingPrice-legal m (e .mark) (e .price) (t .limit) (g .market .bid);
+            most = t .most;
           };
       newStamp = all-map (λ x k z. omega (arith, k .works .last)) (v .orders) (g .book .orders);
-      newId = all-map (λ x k z. omega (arith, k .works .id, f .newId)) (v .orders) (g .book .orders);
-      positive = omega (arith, f .newId);
+      newId = all-map (λ x k z. omega (arith, k .works .id, p .newId)) (v .orders) (g .book .orders);
+      positive = omega (arith, p .newId);
     }
 
 pub marketAfter-sound : (v : Venue) (e : Event) → Allowed v e → SoundMarket (v .market) → SoundMarket (marketAfter e (v .market))
@@ -290,7 +314,7 @@ thePass-sound m v t g =
     (r .0, omega (arith, r .1, g .book .few, length-map (v .orders) idOf))
 
 pub effectOf-sound : (v : Venue) (e : Event) → Allowed v e → SoundVenue v → SoundEffect (lastIdAfter v e) (v .lastStamp) mostOrders (effectOf (marketAfter e (v .market)) v e)
-unfolding effectOf effectOfEntry effectOfCancel effectOfDayEnd
+unfolding effectOf entering effectOfEntry orderOf effectOfCancel effectOfDayEnd
 effectOf-sound v (entry e) f g = (work-sound _ (v .orders) (orderOf-sound v e f g), omega arith)
 effectOf-sound v (cancel i) f g = (book-without (g .book) i, omega arith)
 effectOf-sound v (bid b) f g = thePass-sound _ v f g

@@ -15,7 +15,7 @@ use Rattle.engine.specs.declared.Event.the-variants.{Entry as entry}
 use Rattle.engine.specs.rules.Reports.{Report, accepted}
 use Rattle.engine.specs.rules.Records.{reportBytes, reportsBytes}
 use Rattle.engine.specs.rules.Working.{orderOf, work}
-use Rattle.engine.specs.rules.Venue.{effectOfEntry, effectOf, venueAfter}
+use Rattle.engine.specs.rules.Venue.{entering, effectOfEntry, effectOf, venueAfter}
 use Rattle.engine.specs.steps.Memory.{Ordered, Becomes, Room, Does, withOrders, finished, effectIn, MayAccept, Accepts}
 use Rattle.engine.specs.rules.Layout.{venueOf}
 use Rattle.engine.specs.steps.Steps.{MayEnter}
@@ -36,7 +36,7 @@ accept-stamps a = omega (arith, accept-sound a .stamps, a .events)
 module _ (w : List ℕ) (e : Entry) (o : Order) (q : o ≡ orderOf (venueOf w .market) (venueOf w .lastStamp + 1) e) where
   -- the reports of an entry
   pub entry-reports : effectIn w (entry e) .reports ≡ accepted (o .id) (o .stamp) (o .price) ∷ work o (resting w) .reports
-  unfolding effectIn effectOf effectOfEntry orderOf venueOf
+  unfolding effectIn effectOf entering effectOfEntry orderOf venueOf
   entry-reports = rw q
 
   pub entry-room : (b : List ℕ) → Room b 0 (effectIn w (entry e) .reports) → 0 + length (reportBytes (accepted (o .id) (o .stamp) (o .price))) ≤ length b
@@ -57,7 +57,7 @@ module _ (w : List ℕ) (e : Entry) (o : Order) (q : o ≡ orderOf (venueOf w .m
   work-room {b} r p = room-then (accepted (o .id) (o .stamp) (o .price) ∷ []) _ (room-as b 0 entry-reports r) (put-one _ p)
 
   entry-after : finished (o .id) (o .stamp) (withOrders (work o (resting w) .orders) (venueOf w)) ≡ venueAfter (venueOf w) (entry e) (effectIn w (entry e))
-  unfolding effectIn effectOf effectOfEntry orderOf venueOf
+  unfolding effectIn effectOf entering effectOfEntry orderOf venueOf
   entry-after = rw q
 
   -- and is accepted

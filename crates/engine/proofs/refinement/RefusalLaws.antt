@@ -1,29 +1,34 @@
 -- What is known of an event that isn't refused. Assumes nothing.
 use Prim.Native.Nat.{ℕ, _≤_, _<_}
-use mathlib.Core.Bool.{Bool, true, false}
+use mathlib.Core.Bool.{Bool, true, false, not, _||_}
+use mathlib.Core.Logic.{_⊎_, inl, inr}
 use mathlib.Core.Option.{Option, none, some}
-use lib.Dec.{T, leb, leb→le}
+use lib.Dec.{T, leb, leb→le, T-not}
 use lib.ListN.{length}
+use Rattle.numbers.proofs.TestLaws.{by-test, or-T}
 use Rattle.prices.specs.Prices.{legal, isBid}
+use Rattle.prices.proofs.PriceLaws.{highest-legal, one-legal}
 use Rattle.book.specs.rules.Orders.{find}
 use Rattle.book.specs.rules.Sound.{mostShares}
+use Rattle.engine.specs.declared.Entry.{Entry}
 use Rattle.engine.specs.declared.Event.{Event}
 use Rattle.engine.specs.declared.Event.the-variants.{Entry as entry, Cancel as cancel, Bid as bid, Tape as tape, DayEnd as dayEnd}
+use Rattle.engine.specs.rules.Working.{isMarket, limitOf}
 use Rattle.engine.specs.rules.Venue.{Venue}
 use Rattle.engine.specs.rules.Sound.{mostOrders, mostEvents, sound}
-use Rattle.engine.specs.rules.Refusals.{refuseUnless, codesInRange, rests, refusalOfKind, leastBuffer, refusal}
+use Rattle.engine.specs.rules.Refusals.{refuseUnless, firstOf, codesInRange, refusalOfTerms, refusalOfCodes, refusalOfPlace, rests, refusalOfKind, leastBuffer, refusal}
+
+-- what the refusals of its terms leave of an entry; what counts as its limit is legal
+abbrev pub TermsAllowed : Entry → Type 0
+TermsAllowed e = record { limit : T (legal (limitOf (e .mark) (e .price))); least : 1 ≤ e.shares; most : e.shares ≤ mostShares }
+
+-- what those of its place leave
+abbrev pub PlaceAllowed : Venue → ℕ → Type 0
+PlaceAllowed v id = record { newId : v.lastId < id; room : length (v .orders) < mostOrders }
 
 -- what the refusals of its kind leave of an event
 abbrev pub Allowed : Venue → Event → Type 0
-Allowed v (entry e) =
-    record {
-      price : T (legal (e .price));
-      least : 1 ≤ e.shares;
-      most : e.shares ≤ mostShares;
-      codes : T (codesInRange e);
-      newId : v.lastId < e.id;
-      room : length (v .orders) < mostOrders;
-    }
+Allowed v (entry e) = record { terms : TermsAllowed e; codes : T (codesInRange e); place : PlaceAllowed v (e .id) }
 Allowed v (cancel i) = T (rests (find i (v .orders)))
 Allowed v (bid b) = T (isBid b)
 Allowed v (tape p) = T (legal p)
@@ -50,10 +55,37 @@ unless-map : (P Q : Type 0) → (P → Q) → (r : Option ℕ) → Unless r P �
 unless-map P Q f none h = f h
 unless-map P Q f (some n) h = tt
 
+firstOf-known : (P Q : Type 0) (r later : Option ℕ) → Unless r P → (P → Unless later Q) → Unless (firstOf r later) Q
+unfolding firstOf
+firstOf-known P Q none later h f = f h
+firstOf-known P Q (some n) later h f = tt
+
+limit-legal : (mark price : ℕ) → T (isMarket price || legal price) → T (legal (limitOf mark price))
+unfolding limitOf
+limit-legal mark price h =
+    by-test (λ (x : ℕ). T (legal x)) _ (λ z. by-test (λ (x : ℕ). T (legal x)) _ (λ y. highest-legal) (λ y. one-legal)) (λ z. go z (or-T (isMarket price) (legal price) h))
+  where
+    go : T (not (isMarket price)) → T (isMarket price) ⊎ T (legal price) → T (legal price)
+    go z (inl x) = absurd (T-not (isMarket price) z x)
+    go z (inr x) = x
+
+refusalOfTerms-known : (e : Entry) → Unless (refusalOfTerms (e .price) (e .shares)) (TermsAllowed e)
+unfolding refusalOfTerms
+refusalOfTerms-known e =
+    refuseUnless-known _ _ _ _ (λ p. refuseUnless-known _ (leb 1 (e .shares)) _ _ (λ a. refuseUnless-known _ (leb (e .shares) mostShares) _ none (λ s. record { limit = limit-legal (e .mark) (e .price) p; least = leb→le _ _ a; most = leb→le _ _ s })))
+
+refusalOfPlace-known : (v : Venue) (id : ℕ) → Unless (refusalOfPlace v id) (PlaceAllowed v id)
+unfolding refusalOfPlace
+refusalOfPlace-known v id = refuseUnless-known _ _ _ _ (λ i. refuseUnless-known _ _ _ none (λ r. record { newId = leb→le _ _ i; room = leb→le _ _ r }))
+
+refusalOfEntry-known : (v : Venue) (e : Entry) → Unless (refusalOfKind v (entry e)) (Allowed v (entry e))
+unfolding refusalOfKind refusalOfCodes
+refusalOfEntry-known v e =
+    firstOf-known _ _ _ _ (refusalOfTerms-known e) (λ t. firstOf-known (T (codesInRange e)) _ _ _ (refuseUnless-known _ _ _ none (λ c. c)) (λ c. unless-map _ _ (λ p. record { terms = t; codes = c; place = p }) (refusalOfPlace v (e .id)) (refusalOfPlace-known v (e .id))))
+
 pub refusalOfKind-known : (v : Venue) (e : Event) → Unless (refusalOfKind v e) (Allowed v e)
 unfolding refusalOfKind
-refusalOfKind-known v (entry e) =
-    refuseUnless-known _ _ _ _ (λ p. refuseUnless-known _ (leb 1 (e .shares)) _ _ (λ a. refuseUnless-known _ (leb (e .shares) mostShares) _ _ (λ s. refuseUnless-known _ _ _ _ (λ c. refuseUnless-known _ _ _ _ (λ i. refuseUnless-known _ _ _ none (λ r. record { price = p; least = leb→le _ _ a; most = leb→le _ _ s; codes = c; newId = leb→le _ _ i; room = leb→le _ _ r }))))))
+refusalOfKind-known v (entry e) = refusalOfEntry-known v e
 refusalOfKind-known v (cancel i) = refuseUnless-known _ _ _ none (λ t. t)
 refusalOfKind-known v (bid b) = refuseUnless-known _ _ _ none (λ t. t)
 refusalOfKind-known v (tape p) = refuseUnless-known _ _ _ none (λ t. t)

@@ -16,7 +16,7 @@ use Rattle.book.specs.rules.Words.{venueWords, resting, isBook, soundBook}
 use Rattle.book.proofs.refinement.WordLaws.{resting-length, isBook-laidOut, isBook-book}
 use Rattle.book.proofs.refinement.SoundBookLaws.{soundBook-parts, parts-soundBook}
 use Rattle.engine.specs.rules.Sound.{mostOrders, headerConditions, venueConditions, sound}
-use Rattle.engine.specs.rules.Refusals.{refuseUnless, rests}
+use Rattle.engine.specs.rules.Refusals.{refuseUnless, firstOf, rests}
 use Rattle.engine.specs.steps.Memory.{Ordered}
 use Rattle.engine.specs.rules.Layout.{venueOf, soundWords}
 
@@ -27,6 +27,14 @@ refuse-yes b n later e = rw e
 pub refuse-no : (b : Bool) (n : ℕ) (later : Option ℕ) → b ≡ false → refuseUnless b n later ≡ some n
 unfolding refuseUnless
 refuse-no b n later e = rw e
+
+pub first-given : {r : Option ℕ} {n : ℕ} (later : Option ℕ) → r ≡ some n → firstOf r later ≡ some n
+unfolding firstOf
+first-given later e = rw e
+
+pub first-none : {r : Option ℕ} (later : Option ℕ) → r ≡ none → firstOf r later ≡ later
+unfolding firstOf
+first-none later e = rw e
 
 -- the refusal of a cancel, by what was found
 pub found-allowed : {x : Option Order} {o : Order} → x ≡ some o → refuseUnless (rests x) 8 none ≡ none

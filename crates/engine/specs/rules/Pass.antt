@@ -36,13 +36,17 @@ slideDown m o =
     (pick (eqb (o .slide) 1) (slideOnce m o)
     Stay)
 
+-- "Otherwise, if adjusted"; No. 1: "With no bid a resting market short stays where it is"
+unfoldable pub maySlide : Market → Order → Bool
+maySlide m o = o .adjusted && not (o .market && eqb (m .bid) 0)
+
 -- where a restricted order goes: "If price ≤ bid, and it is not displayed or not clear: opt-out is cancelled (cause 3), any other is
 -- re-priced to the permitted price .. Otherwise, if adjusted: .."
 unfoldable pub moveOf : Market → Order → Move
 moveOf m o =
     pick (leb (o .price) (m .bid) && not (displayedClear o))
     (pick (eqb (o .slide) 3) Cancel (Reprice (permittedNow m) (o .used)))
-    (pick (o .adjusted) (slideDown m o) Stay)
+    (pick (maySlide m o) (slideDown m o) Stay)
 
 -- "A re-priced order gets a new stamp, is clear"; it "becomes adjusted", or is already
 abbrev pub atNewPrice : ℕ → ℕ → Bool → Order → Order
@@ -61,6 +65,7 @@ atNewPrice price stamp used o =
       adjusted = true;
       used = used;
       clear = true;
+      market = o.market;
     }
 
 -- what an event, or a part of it, has reported, and the book and the last stamp after it

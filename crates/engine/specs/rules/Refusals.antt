@@ -1,6 +1,6 @@
--- The refusals of an event, in their order: document 01, "Operations". Assumes nothing.
+-- The refusals of an event, in their order: document 01, "Operations", and document 02, No. 1. Assumes nothing.
 use Prim.Native.Nat.{ℕ}
-use mathlib.Core.Bool.{Bool, true, false}
+use mathlib.Core.Bool.{Bool, true, false, _||_}
 use mathlib.Core.List.{List, [], _∷_}
 use mathlib.Core.Option.{Option, none, some}
 use lib.Dec.{leb, ltb}
@@ -12,6 +12,7 @@ use Rattle.book.specs.rules.Orders.{find}
 use Rattle.engine.specs.declared.Entry.{Entry}
 use Rattle.engine.specs.declared.Event.{Event}
 use Rattle.engine.specs.declared.Event.the-variants.{Entry as entry, Cancel as cancel, Bid as bid, Tape as tape, DayEnd as dayEnd}
+use Rattle.engine.specs.rules.Working.{isMarket}
 use Rattle.engine.specs.rules.Venue.{Venue}
 use Rattle.book.specs.rules.Sound.{mostShares, slideAllowed}
 use Rattle.engine.specs.rules.Sound.{mostOrders, mostEvents, sound}
@@ -21,6 +22,11 @@ unfoldable pub refuseUnless : Bool → ℕ → Option ℕ → Option ℕ
 refuseUnless true n later = later
 refuseUnless false n later = some n
 
+-- the first of two refusals
+unfoldable pub firstOf : Option ℕ → Option ℕ → Option ℕ
+firstOf (some n) later = some n
+firstOf none later = later
+
 -- "5 mark, show, life or slide"
 abbrev pub entryCodes : Entry → List Bool
 entryCodes e = leb (e .mark) 3 ∷ leb (e .show) 1 ∷ leb (e .life) 1 ∷ slideAllowed (e .mark) (e .slide) ∷ []
@@ -28,22 +34,36 @@ entryCodes e = leb (e .mark) 3 ∷ leb (e .show) 1 ∷ leb (e .life) 1 ∷ slide
 unfoldable pub codesInRange : Entry → Bool
 codesInRange e = conj (entryCodes e)
 
+-- the refusals of an entry, in three parts
+
+-- its terms: "3 price not legal; 4 shares"; No. 1: "refusal 3 no longer meets an entry price of 0"
+unfoldable pub refusalOfTerms : ℕ → ℕ → Option ℕ
+refusalOfTerms price shares =
+    refuseUnless (isMarket price || legal price) 3
+    (refuseUnless (leb 1 shares) 4
+    (refuseUnless (leb shares mostShares) 4
+    none))
+
+-- its codes
+unfoldable pub refusalOfCodes : Entry → Option ℕ
+refusalOfCodes e = refuseUnless (codesInRange e) 5 none
+
+-- its place: "6 id not above the last accepted id (0 never is); 7 if 256 orders rest"
+unfoldable pub refusalOfPlace : Venue → ℕ → Option ℕ
+refusalOfPlace v id =
+    refuseUnless (ltb (v .lastId) id) 6
+    (refuseUnless (ltb (length (v .orders)) mostOrders) 7
+    none)
+
 -- an order was found
 unfoldable pub rests : Option Order → Bool
 rests none = false
 rests (some o) = true
 
--- the refusals of each kind of event: an entry "3 price not legal; 4 shares; 5 ..; 6 id not above the last accepted id (0 never is);
--- 7 if 256 orders rest", a cancel "8 if the id doesn't rest", "3 for a bid that isn't a bid, or a tape price or close that isn't legal"
+-- the refusals of each kind of event: an entry's, a cancel's "8 if the id doesn't rest", "3 for a bid that isn't a bid, or a tape price or
+-- close that isn't legal"
 unfoldable pub refusalOfKind : Venue → Event → Option ℕ
-refusalOfKind v (entry e) =
-    refuseUnless (legal (e .price)) 3
-    (refuseUnless (leb 1 (e .shares)) 4
-    (refuseUnless (leb (e .shares) mostShares) 4
-    (refuseUnless (codesInRange e) 5
-    (refuseUnless (ltb (v .lastId) (e .id)) 6
-    (refuseUnless (ltb (length (v .orders)) mostOrders) 7
-    none)))))
+refusalOfKind v (entry e) = firstOf (refusalOfTerms (e .price) (e .shares)) (firstOf (refusalOfCodes e) (refusalOfPlace v (e .id)))
 refusalOfKind v (cancel i) = refuseUnless (rests (find i (v .orders))) 8 none
 refusalOfKind v (bid b) = refuseUnless (isBid b) 3 none
 refusalOfKind v (tape p) = refuseUnless (legal p) 3 none

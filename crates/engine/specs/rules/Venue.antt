@@ -13,7 +13,7 @@ use Rattle.engine.specs.declared.Event.{Event}
 use Rattle.engine.specs.declared.Event.the-variants.{Entry as entry, Cancel as cancel, Bid as bid, Tape as tape, DayEnd as dayEnd}
 use Rattle.engine.specs.rules.Market.{openingMarket, marketAfter}
 use Rattle.engine.specs.rules.Reports.{Report, accepted, cancelled, restrictionStarts, dayEnded, askedFor, endOfDay}
-use Rattle.engine.specs.rules.Working.{Worked, workingPrice, orderOf, work}
+use Rattle.engine.specs.rules.Working.{Worked, orderOf, work}
 use Rattle.engine.specs.rules.Pass.{Effect, passOver}
 
 -- the orders rest in rising id
@@ -34,12 +34,15 @@ opening close = pick (legal close) (gives (opened close)) (refuses 3)
 
 -- What an accepted event reports, and the book after it; m is the market after the event
 
+-- "1 accepted: id, stamp, working price", and the order works
+unfoldable pub entering : Order → List Order → Effect
+entering o os =
+    let w : Worked = work o os in
+    record { reports = accepted (o .id) (o .stamp) (o .price) ∷ w.reports; orders = w.orders; stamp = o.stamp }
+
 -- "An entry takes a stamp": "A stamp is the next whole number"
 unfoldable pub effectOfEntry : Market → Venue → Entry → Effect
-effectOfEntry m v e =
-    let s : ℕ = v.lastStamp + 1 in
-    let w : Worked = work (orderOf m s e) (v .orders) in
-    record { reports = accepted (e .id) s (workingPrice m e) ∷ w.reports; orders = w.orders; stamp = s }
+effectOfEntry m v e = entering (orderOf m (v .lastStamp + 1) e) (v .orders)
 
 unfoldable pub effectOfCancel : Venue → ℕ → Effect
 effectOfCancel v i =
