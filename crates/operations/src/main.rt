@@ -79,7 +79,8 @@ fn print_record(o: OrderRecord) {
     print_word(o.entry_bid, b" ");
     print_word(o.adjusted, b" ");
     print_word(o.used, b" ");
-    print_word(o.clear, b"\n");
+    print_word(o.clear, b" ");
+    print_word(o.market, b"\n");
 }
 
 // A record that no venue has: what copy out keeps must show.
@@ -98,6 +99,7 @@ fn blank() -> OrderRecord {
         adjusted: 7,
         used: 7,
         clear: 7,
+        market: 7,
     }
 }
 
@@ -142,7 +144,8 @@ fn enter(words: &mut [u32], id: u32, mark: u32, price: u32, shares: u32, show: u
     );
 }
 
-// Copies of an empty book, of three orders, of five, which the run of four is too short for, and of words that are no venue.
+// Copies of an empty book, of three orders, of a market short (price 0) too, of six orders, which the run of four is too short for, and of words
+// that are no venue.
 fn copies() -> [OrderRecord; 4] {
     io::write_all(STDOUT_FILENO, b"copy out\n");
     let opened = open::open(100_000);
@@ -155,8 +158,10 @@ fn copies() -> [OrderRecord; 4] {
     enter(words, 2, 0, 90_000, 200, 1);
     enter(words, 3, 1, 91_200, 300, 0);
     let run = try_copy(words);
-    enter(words, 4, 0, 89_900, 1, 1);
-    enter(words, 5, 0, 89_800, 1, 1);
+    enter(words, 4, 2, 0, 100, 1);
+    try_copy(words);
+    enter(words, 5, 0, 89_900, 1, 1);
+    enter(words, 6, 0, 89_800, 1, 1);
     try_copy(words);
     if words.len() > 2 {
         words[2] = 3;
