@@ -2,3 +2,4 @@
 pub mod demand3
 pub mod bytes
 pub mod refinement
+pub mod requests

@@ -5,3 +5,4 @@ pub mod Reached
 pub mod RoundTrips
 pub mod Examples
 pub mod Calls
+pub mod MarketOrders

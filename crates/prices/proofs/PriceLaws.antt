@@ -227,3 +227,8 @@ highest-legal = legal-in highest (record { low = omega arith; high = omega arith
 
 pub one-legal : T (legal 1)
 one-legal = legal-in 1 (record { low = omega arith; high = omega arith; onStep = inl (omega arith) })
+
+-- "1 if b = 0"
+pub permitted-none : permitted 0 ≡ 1
+unfolding permitted pick
+permitted-none = refl

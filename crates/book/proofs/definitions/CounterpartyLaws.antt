@@ -1,13 +1,13 @@
 -- Laws of whom a working order reaches, and of whom it trades with next. Assumes nothing.
 use Prim.Native.Nat.{_≤_, _<_}
 use mathlib.Core.Path.{_≡_, refl, subst}
-use mathlib.Core.Bool.{Bool, not}
+use mathlib.Core.Bool.{Bool, true, false, not, _&&_}
 use mathlib.Core.Logic.{_⊎_, inl, inr}
 use mathlib.Core.Option.{Option, none, some}
 use mathlib.Core.List.{List, [], _∷_, List·Memᴰ, List·Memᴰ·head, List·Memᴰ·tail}
 use lib.Dec.{T, leb, leb→le, eqb→eq}
-use Rattle.numbers.specs.Tests.{All}
-use Rattle.numbers.proofs.TestLaws.{by-test, pick-yes, pick-no, and-T, nand-T, notnot-T, neqb, tests, all-map}
+use Rattle.numbers.specs.Tests.{pick, All}
+use Rattle.numbers.proofs.TestLaws.{by-test, pick-yes, pick-no, T-true, T-false, and-T, nand-T, notnot-T, neqb, tests, all-map}
 use Rattle.book.specs.declared.Order.{Order}
 use Rattle.book.specs.rules.Orders.{isBuy}
 use Rattle.book.specs.rules.Matching.{reaches, betterOf, bestFrom, best, counterparty}
@@ -19,6 +19,15 @@ unfolding reaches
 reach-sell w o t r =
     let s = and-T (isBuy o) (leb (w .price) (o .price)) (subst T (pick-no (isBuy w) _ _ t) r) in
     (s .0, leb→le (w .price) (o .price) (s .1))
+
+-- it is on the other side
+pub reach-opposite : (w o : Order) → T (reaches w o) → isBuy o ≡ not (isBuy w)
+unfolding reaches pick
+reach-opposite w o = go (isBuy w)
+  where
+    go : (b : Bool) → T (pick b (not (isBuy o) && leb (o .price) (w .price)) (isBuy o && leb (w .price) (o .price))) → isBuy o ≡ not b
+    go true r = T-false (isBuy o) (and-T (not (isBuy o)) _ r .0)
+    go false r = T-true (isBuy o) (and-T (isBuy o) _ r .0)
 
 abbrev pub Unreached : Order → Order → Type 0
 Unreached w o = T (not (reaches w o))

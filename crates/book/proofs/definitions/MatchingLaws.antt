@@ -2,7 +2,8 @@
 use Prim.Native.Nat.{ℕ, zero, suc, _+_, _-_, _≤_, _<_, min}
 use native.Mathlib.Omega.{arith}
 use native.Mathlib.Decide.{decLe}
-use mathlib.Core.Path.{_≡_, refl, ap, subst}
+use mathlib.Core.Path.{_≡_, refl, sym, ap, _∙_, subst}
+use mathlib.Core.Bool.{Bool, true, false, not}
 use mathlib.Core.Logic.{_⊎_, inl, inr}
 use mathlib.Core.Option.{Option, none, some}
 use mathlib.Core.List.{List, [], _∷_, foldl, List·Memᴰ}
@@ -11,11 +12,11 @@ use lib.ListN.{length}
 use Rattle.numbers.specs.Tests.{All}
 use Rattle.numbers.proofs.TestLaws.{by-test, tests}
 use Rattle.book.specs.declared.Order.{Order}
-use Rattle.book.specs.rules.Orders.{reduced, ifSame, restingShares, without}
+use Rattle.book.specs.rules.Orders.{isBuy, reduced, ifSame, restingShares, without}
 use Rattle.book.specs.rules.Matching.{counterparty, Execution, afterTrade, Meeting, meeting, Matched, matchingWith, matchingUpTo, matching}
 use Rattle.book.proofs.definitions.ShareLaws.{ifSame-less}
-use Rattle.book.proofs.definitions.OrderLaws.{idOf, Differ, Distinct, taken-all, all-taken, taken-differ, differ-taken, taken-shares, taken-length, mem-taken, insert-taken}
-use Rattle.book.proofs.definitions.CounterpartyLaws.{Reached, counterparty-reached}
+use Rattle.book.proofs.definitions.OrderLaws.{idOf, Other, Differ, Distinct, taken-all, all-taken, taken-differ, differ-taken, taken-shares, taken-length, mem-taken, insert-taken, taken-mem, without-mem, same-id}
+use Rattle.book.proofs.definitions.CounterpartyLaws.{reach-opposite, Reached, counterparty-reached}
 
 -- the book after a trade
 
@@ -63,6 +64,13 @@ module _ {o : Order} {os : List Order} (q : ℕ) (m : List·Memᴰ o os) (d : Di
   afterTrade-shorter h =
       let e = taken-length (mem-taken m d) in
       by-test (λ (l : List Order). length l < length os) _ (λ t. omega arith) (λ t. absurd (omega tests))
+
+-- an order with another id stays
+afterTrade-mem : {o : Order} {os : List Order} (x : Order) (q : ℕ) → Other (x .id) o → List·Memᴰ o os → List·Memᴰ o (afterTrade x q os)
+unfolding afterTrade
+afterTrade-mem {o} {os} x q n m =
+    let r : List·Memᴰ o (without (x .id) os) = without-mem (x .id) n m in
+    by-test (List·Memᴰ o) _ (λ t. r) (λ t. taken-mem (insert-taken (reduced q x) (without (x .id) os)) r)
 
 -- one meeting
 
@@ -125,6 +133,23 @@ matching-all P s w os d p h =
     os
     tt
     (d, p, h)
+
+-- orders on the working order's own side stay as they are
+
+abbrev OwnSide : Order → Order → List Order → Type 0
+OwnSide o w os = Distinct os × (isBuy o ≡ isBuy w) × List·Memᴰ o os
+
+meeting-own-side : (o w x : Order) (os : List Order) → Reached w os (some x) → OwnSide o w os → OwnSide o ((meeting w x os) .left) ((meeting w x os) .orders)
+unfolding meeting
+meeting-own-side o w x os r i =
+    (meeting-distinct w x os (r .0) (i .0), i .1, afterTrade-mem x (min (w .shares) (x .shares)) (λ e. opposite (isBuy w) (sym (i .1) ∙ ap isBuy (same-id (i .2) (r .0) (i .0) e) ∙ reach-opposite w x (r .1))) (i .2))
+  where
+    opposite : (b : Bool) → b ≡ not b → ⊥
+    opposite true e = subst T e tt
+    opposite false e = subst T (sym e) tt
+
+pub matching-own-side : (o w : Order) (os : List Order) → Distinct os → isBuy o ≡ isBuy w → List·Memᴰ o os → List·Memᴰ o ((matching w os) .orders)
+matching-own-side o w os d e m = matching-keeps unread (λ x l a. OwnSide o x l) (λ x y l a r i. meeting-own-side o x y l r i) w os tt (d, e, m) .2
 
 -- matching ends where no shares remain or nobody is reached
 

@@ -2,8 +2,10 @@
 use Prim.Native.Nat.{ℕ, _≤_}
 use native.Mathlib.Omega.{arith}
 use mathlib.Core.Path.{_≡_}
-use lib.Dec.{T, leb→le, le→leb, eqb→eq}
-use Rattle.numbers.proofs.TestLaws.{Each, conj-T, T-conj, eq→T, tests}
+use mathlib.Core.Bool.{not, _&&_}
+use mathlib.Core.Logic.{_⊎_, inl, inr}
+use lib.Dec.{T, eqb, leb→le, le→leb, eqb→eq, T-not}
+use Rattle.numbers.proofs.TestLaws.{and-T, or-T, Each, conj-T, T-conj, eq→T, tests}
 use Rattle.prices.specs.Prices.{legal, isBid}
 use Rattle.book.specs.declared.Order.{Order}
 use Rattle.book.specs.rules.Orders.{reduced}
@@ -36,6 +38,14 @@ MayWork n s o =
 
 abbrev pub MayRest : ℕ → ℕ → Order → Type 0
 MayRest n s o = record { works : MayWork n s o; least : 1 ≤ o.shares; day : o.life ≡ 0 }
+
+-- an order that is said to be a market short is a short with limit 1
+pub market-short : (o : Order) → T (o .market) → FieldsSound o → (o.mark ≡ 2) × (o.limit ≡ 1)
+market-short o t f = go (or-T (not (o .market)) (eqb (o .mark) 2 && eqb (o .limit) 1) (f .market))
+  where
+    go : T (not (o .market)) ⊎ T (eqb (o .mark) 2 && eqb (o .limit) 1) → (o.mark ≡ 2) × (o.limit ≡ 1)
+    go (inl x) = absurd (T-not (o .market) x t)
+    go (inr x) = let y = and-T (eqb (o .mark) 2) (eqb (o .limit) 1) x in (eqb→eq (o .mark) 2 (y .0), eqb→eq (o .limit) 1 (y .1))
 
 -- the order with q shares less
 pub mayWork-reduced : (n s q : ℕ) (o : Order) → MayWork n s o → MayWork n s (reduced q o)

@@ -7,7 +7,7 @@ use mathlib.Core.List.{List, [], _∷_, List·Memᴰ, List·Memᴰ·head, List·
 use lib.Dec.{eqb, eqb→eq, eqb-refl}
 use lib.ListN.{length}
 use Rattle.numbers.specs.Tests.{All}
-use Rattle.numbers.proofs.TestLaws.{by-test, pick-yes, pick-no, ne→T, neqb}
+use Rattle.numbers.proofs.TestLaws.{by-test, pick-yes, pick-no, eq→T, ne→T, neqb}
 use Rattle.book.specs.declared.Order.{Order}
 use Rattle.book.specs.rules.Orders.{find, ifSame, restingShares, without, insert}
 use Rattle.book.proofs.definitions.ShareLaws.{ifSame-same, ifSame-other, ifSame-zero, ifSame-plus}
@@ -163,3 +163,29 @@ shares-none i (x ∷ xs) h = omega (arith, shares-none i xs (h .1), ifSame-other
 pub shares-found : {o : Order} {os : List Order} → List·Memᴰ o os → Distinct os → restingShares (o .id) os ≡ o.shares
 shares-found {o} {os} m d =
     omega (arith, taken-shares (mem-taken m d) (o .id), ifSame-same (o .id) (o .shares), shares-none (o .id) (without (o .id) os) (without-other (o .id) os))
+
+-- one order that stays in the book
+
+pub taken-mem : {o x : Order} {os rs : List Order} → TakenOut x os rs → List·Memᴰ o rs → List·Memᴰ o os
+taken-mem here m = List·Memᴰ·tail m
+taken-mem (there t) (List·Memᴰ·head e) = List·Memᴰ·head e
+taken-mem (there t) (List·Memᴰ·tail m) = List·Memᴰ·tail (taken-mem t m)
+
+pub without-mem : {o : Order} {os : List Order} (i : ℕ) → Other i o → List·Memᴰ o os → List·Memᴰ o (without i os)
+unfolding without
+without-mem {o} i n (List·Memᴰ·head {x = x} e) =
+    by-test (List·Memᴰ o) _ (λ t. absurd (n (ap idOf e ∙ sym (eqb→eq i (x .id) t)))) (λ t. List·Memᴰ·head e)
+without-mem {o} i n (List·Memᴰ·tail m) =
+    by-test (List·Memᴰ o) _ (λ t. without-mem i n m) (λ t. List·Memᴰ·tail (without-mem i n m))
+
+-- it is the one that rests under its id
+pub find-mem : {o : Order} {os : List Order} → List·Memᴰ o os → Distinct os → find (o .id) os ≡ some o
+unfolding find
+find-mem {o} (List·Memᴰ·head {x = x} e) d = pick-yes (eqb (o .id) (x .id)) _ _ (eq→T (ap idOf e)) ∙ ap some (sym e)
+find-mem {o} (List·Memᴰ·tail {x = x} m) d =
+    pick-no (eqb (o .id) (x .id)) _ _ (ne→T (o .id) (x .id) (taken-all (Other (x .id)) (mem-taken m (d .1)) (d .0) .0)) ∙ find-mem m (d .1)
+
+pub same-id : {o x : Order} {os : List Order} → List·Memᴰ o os → List·Memᴰ x os → Distinct os → o.id ≡ x.id → o ≡ x
+same-id {o} {x} {os} m n d e =
+    let z : some o ≡ some x = sym (find-mem m d) ∙ ap (λ (i : ℕ). find i os) e ∙ find-mem n d in
+    cc

@@ -262,7 +262,7 @@ module _ (m : Market) (mark price : ℕ) where
   life-code life h = by-test (λ (x : ℕ). x ≤ 1) _ (λ t. omega arith) (λ t. h)
 
   -- what follows the bid is a short with limit 1
-  follows-short : T (followsBid m mark price) → (mark ≡ 2) × (limitOf mark price ≡ 1)
+  pub follows-short : T (followsBid m mark price) → (mark ≡ 2) × (limitOf mark price ≡ 1)
   unfolding followsBid limitOf
   follows-short t =
       let a = and-T (isMarket price) _ t in

@@ -1,4 +1,4 @@
--- Document 01, "Twelve sums, and one day", as statements about the definitions. Assumes nothing.
+-- Document 01, "Twelve sums, and one day", and a day of market orders, as statements about the definitions. Assumes nothing.
 use Prim.Native.Nat.{ℕ}
 use mathlib.Core.Path.{_≡_}
 use mathlib.Core.Bool.{Bool, not}
@@ -65,7 +65,32 @@ restrictedDay es = bid 91_000 ∷ tape 90_000 ∷ es
 abbrev pub tradeOf : ℕ → ℕ → ℕ → ℕ → Report
 tradeOf buyer seller price shares = executed (record { buyer = buyer; seller = seller; price = price; shares = shares })
 
--- the one day, and for each of "Slides gone wrong" events and what the last of them reports
+-- a day of market orders (No. 1), and the reports of each event: a market short follows the bid, stays while there is none, and trades where it
+-- stands; the other market orders are immediate
+abbrev pub marketDayEvents : List Event
+marketDayEvents =
+    restrictedDay (entryOf 1 2 0 500 1 0 0 ∷ bid 90_000 ∷ bid 0 ∷ entryOf 2 0 0 200 1 0 0 ∷ bid 90_500 ∷ entryOf 3 0 0 400 1 0 0 ∷ entryOf 4 2 0 100 1 1 0
+    ∷ entryOf 5 1 0 50 1 0 0 ∷ bid 0 ∷ entryOf 6 2 0 30 0 0 3 ∷ entryOf 7 0 90_000 10 1 0 0 ∷ entryOf 8 2 0 30 0 0 3 ∷ [])
+
+abbrev pub marketDayReports : List (List Report)
+marketDayReports =
+    []
+    ∷ (restrictionStarts ∷ [])
+    ∷ (accepted 1 1 91_100 ∷ [])
+    ∷ (repriced 1 90_100 2 ∷ [])
+    ∷ []
+    ∷ (accepted 2 3 100_000_000 ∷ tradeOf 2 1 90_100 200 ∷ [])
+    ∷ []
+    ∷ (accepted 3 4 100_000_000 ∷ tradeOf 3 1 90_100 300 ∷ cancelled 3 100 2 ∷ [])
+    ∷ (accepted 4 5 90_600 ∷ cancelled 4 100 2 ∷ [])
+    ∷ (accepted 5 6 1 ∷ cancelled 5 50 2 ∷ [])
+    ∷ []
+    ∷ (accepted 6 7 1 ∷ cancelled 6 30 2 ∷ [])
+    ∷ (accepted 7 8 90_000 ∷ [])
+    ∷ (accepted 8 9 1 ∷ tradeOf 7 8 90_000 10 ∷ cancelled 8 20 2 ∷ [])
+    ∷ []
+
+-- the one day, for each of "Slides gone wrong" events and what the last of them reports, and market orders
 pub record Played : Type 0 where
   pub theDay : answersTo dayEvents ≡ map gives dayReports
   -- "Re-pricing a clear displayed order when the bid rises over it. It stays and may trade there."
@@ -80,3 +105,10 @@ pub record Played : Type 0 where
   pub notClear : lastAnswerTo (bid 91_000 ∷ entryOf 1 2 91_000 5 1 0 0 ∷ tape 90_000 ∷ []) ≡ gives (restrictionStarts ∷ repriced 1 91_100 2 ∷ [])
   -- a hidden order with slide once goes down to its entry bid, is pushed up again, and then stays
   pub onceOnly : lastAnswerTo (restrictedDay (entryOf 1 2 90_000 5 0 0 1 ∷ bid 90_500 ∷ bid 91_000 ∷ bid 90_500 ∷ [])) ≡ gives []
+  pub marketDay : answersTo marketDayEvents ≡ map gives marketDayReports
+  -- a short entered with limit 1 isn't a market short, and falls to 1
+  pub limitOne : lastAnswerTo (restrictedDay (entryOf 1 2 1 5 1 0 0 ∷ bid 0 ∷ [])) ≡ gives (repriced 1 1 2 ∷ [])
+  -- a bid of 1 is a bid
+  pub bidOfOne : lastAnswerTo (restrictedDay (entryOf 1 2 0 5 1 0 0 ∷ bid 1 ∷ [])) ≡ gives (repriced 1 2 2 ∷ [])
+  -- with no bid an order with slide once isn't used up: it goes to its entry bid when a bid comes back
+  pub onceKept : lastAnswerTo (restrictedDay (entryOf 1 2 0 5 1 0 1 ∷ bid 0 ∷ bid 90_500 ∷ [])) ≡ gives (repriced 1 91_000 2 ∷ [])
