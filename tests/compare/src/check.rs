@@ -267,6 +267,7 @@ fn check_copy_out(venue: &Venue, spare: usize) -> Result<(), Fault> {
         adjusted: 7,
         used: 7,
         clear: 7,
+        market: 7,
     };
     let len = venue.orders.len();
     let mut run = vec![noise; (len + spare).saturating_sub(1)];

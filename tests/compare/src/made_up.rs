@@ -69,6 +69,7 @@ fn made_up_order(rng: &mut Rng, market: &Market, id: u32, stamp: u32) -> Order {
         adjusted: rng.one_in(2),
         used: rng.one_in(2),
         clear: rng.one_in(2),
+        market: false,
     }
 }
 

@@ -1,5 +1,5 @@
-//! A second implementation of document 01's venue, and its comparison with the
-//! proved engine. See README.md.
+//! A second implementation of the venue of document 01 and of No. 1 of document
+//! 02, and its comparison with the proved engine. See README.md.
 
 mod account;
 #[cfg(feature = "engine")]

@@ -1,6 +1,6 @@
-//! A plain implementation of document 01, written from the paper and the
-//! readings alone. Comments in quotation marks are sentences of the paper,
-//! letters with numbers (A1, C7) are readings.
+//! A plain implementation of document 01 and, of document 02, of No. 1, written
+//! from the papers and the readings alone. Comments in quotation marks are
+//! sentences of the papers, letters with numbers (A1, F1.3) are readings.
 
 mod book;
 mod form;
