@@ -14,6 +14,8 @@ mod counts;
 #[cfg(feature = "engine")]
 mod engine;
 mod made_up;
+#[cfg(test)]
+mod market_days;
 mod model;
 #[cfg(feature = "engine")]
 mod observe;
