@@ -18,7 +18,7 @@ pub use play::Progress;
 pub use play::Stop;
 pub use prices::{
     is_legal, permitted_price, phase_after_day_end, phase_after_tape, watch_tape, Watch, DOLLAR,
-    HIGHEST, HIGHEST_BID, STEP,
+    HIGHEST, HIGHEST_BID, LOWEST, STEP,
 };
 pub use venue::{RecordCheck, Venue, LEAST_BUFFER, MOST_EVENTS, MOST_SHARES};
 
