@@ -5,6 +5,7 @@ mod account;
 #[cfg(feature = "engine")]
 mod applier;
 mod bench;
+mod by_limits;
 #[cfg(feature = "engine")]
 mod caller;
 mod check;
@@ -16,6 +17,7 @@ mod engine;
 mod made_up;
 #[cfg(test)]
 mod market_days;
+mod market_orders;
 mod model;
 #[cfg(feature = "engine")]
 mod observe;
