@@ -15,10 +15,10 @@ extern "C" {
 
 /* The words of a venue. A longer run is a venue with further words behind it, which keep their content. Between the calls the words are the
    host's to copy and to store, and nobody's to change. */
-#define VENUE_WORDS 3344
+#define VENUE_WORDS 3600
 
 /* The number of the layout of these words. venue_open writes it, and words that were stored under another layout are refused with 16. */
-#define VENUE_LAYOUT 1
+#define VENUE_LAYOUT 2
 
 /* The least length of a report buffer: the reports of an event always fit it. */
 #define VENUE_REPORT_BYTES 16384
@@ -118,6 +118,7 @@ struct venue_order {
     uint32_t adjusted;  /* 1: priced above its limit by the restriction at its entry, or re-priced since; else 0 */
     uint32_t used;      /* 1: with slide once, re-priced to the larger of limit and entry bid; else 0 */
     uint32_t clear;     /* 1: the bid was 0 or below the present price when that price was given; else 0 */
+    uint32_t market;
 };
 
 /* Copies the resting orders to the front of the run, in rising id, and answers how many there are; the records behind them keep their content.

@@ -36,7 +36,8 @@ pub struct Resting {
 }
 
 /// "a tally for its id: mark, show, shares entered, executed 0, cancelled 0",
-/// and the price and the bid noted as last given.
+/// and the price and the bid noted as last given. An entry's own price is no
+/// part of it, so a market order has one like any other.
 #[derive(Clone, Copy, Debug)]
 struct Tally {
     id: u32,
@@ -306,6 +307,43 @@ mod tests {
         let bought = [accepted(2, 92_000), sold(1, 91_100)];
         assert_eq!(account.take(&entry(2, 0, 92_000), &bought), Ok(()));
         assert_eq!(account.judge([].into_iter()), Ok(()));
+    }
+
+    /// "Demand 3 covers these orders too": a price of 0 starts a tally as any
+    /// entry, and the prices are those of the reports.
+    #[test]
+    fn market_orders_have_tallies() {
+        let mut account = at_bid(91_000);
+        assert_eq!(account.take(&ON, &[Report::RestrictionOn]), Ok(()));
+        let entered = account.take(&entry(1, 2, 0), &[accepted(1, 91_100)]);
+        assert_eq!(entered, Ok(()));
+        assert_eq!(account.judge([rest(1, 91_100)].into_iter()), Ok(()));
+        assert_eq!(account.judge([].into_iter()), Err(Breach::ShareSum(1)));
+        let lowest = account.judge([rest(1, 1)].into_iter());
+        assert_eq!(lowest, Err(Breach::PresentPrice(1)));
+        let bought = [accepted(2, 100_000_000), sold(1, 91_100)];
+        assert_eq!(account.take(&entry(2, 0, 0), &bought), Ok(()));
+        assert_eq!(account.judge([].into_iter()), Ok(()));
+        let cancelled = Report::Cancelled {
+            id: 3,
+            shares: 5,
+            cause: 2,
+        };
+        let gone = account.take(&entry(3, 1, 0), &[accepted(3, 1), cancelled]);
+        assert_eq!(gone, Ok(()));
+        assert_eq!(account.judge([].into_iter()), Ok(()));
+    }
+
+    /// A market short at 1 would trade at the bid.
+    #[test]
+    fn a_market_short_at_1_is_seen() {
+        let mut account = at_bid(91_000);
+        assert_eq!(account.take(&ON, &[Report::RestrictionOn]), Ok(()));
+        let bid = account.take(&entry(2, 0, 91_000), &[accepted(2, 91_000)]);
+        assert_eq!(bid, Ok(()));
+        let sale = [accepted(3, 1), sold(3, 91_000)];
+        let taken = account.take(&entry(3, 2, 0), &sale);
+        assert_eq!(taken, Err(Breach::ShortSale(3)));
     }
 
     #[test]

@@ -1,22 +1,15 @@
 //! `check`: the model alone against the paper's claims, after every event.
 
 use crate::account::{Account, Resting};
+use crate::by_limits;
 use crate::counts::{Counts, Lent};
 use crate::model::{
     copy_out, depth, is_legal, permitted_price, read_record, watch_tape, write_record, Event,
     Order, OrderRecord, RecordCheck, Refusal, Report, ReportWriter, Side, Venue, Watch, BUY,
     LEAST_BUFFER, OPT_OUT, PLACES, SHORT,
 };
-use crate::sessions::{self, Examiner, Fault};
+use crate::sessions::{self, ensure, Examiner, Fault};
 use crate::streams::{Session, Step};
-
-fn ensure(condition: bool, claim: &str) -> Result<(), Fault> {
-    if condition {
-        Ok(())
-    } else {
-        Err(claim.to_owned())
-    }
-}
 
 /// Plays sessions until so many events are over. Gives whether all claims held.
 pub fn run(seed: u64, events: u64) -> bool {
@@ -48,22 +41,27 @@ impl Examiner for Checked {
         let (event, end) = match read_record(step.record, 0) {
             Ok(read) => read,
             Err(refusal) => {
-                counts.refuse(refusal);
+                counts.refuse_record(refusal);
                 return Ok(());
             }
         };
         check_round_trip(&event, &step.record[..end], counts.events as usize % 5)?;
         self.before.clone_from(&self.venue);
         let buffer = self.lent.lend(step.buffer);
-        match self.venue.apply(&event, buffer, RecordCheck::Done) {
+        let answer = self.venue.apply(&event, buffer, RecordCheck::Done);
+        if answer != Err(Refusal::VenueRecord) {
+            let answer = answer.map(|count| self.lent.front(count));
+            by_limits::check(&self.before, &event, step.buffer, answer, &self.venue)?;
+        }
+        match answer {
             Err(refusal) => {
-                counts.refuse(refusal);
+                counts.refuse(&event, refusal);
                 self.check_refused(&event, refusal)?;
                 ensure(self.lent.keeps_from(0), "a refused event wrote reports")
             }
             Ok(count) => {
                 let reports = read_reports(self.lent.front(count))?;
-                counts.accept(count, &reports);
+                counts.accept(&self.before, &event, count, &reports);
                 ensure(self.lent.keeps_from(count), "bytes behind the reports")?;
                 self.lent.restore(count);
                 ensure(count <= LEAST_BUFFER, "16,384 bytes")?;
@@ -144,7 +142,9 @@ impl Checked {
 
 /// What section G of the readings says of venues reached from open: shorts at
 /// or above their limits, only shorts adjusted and no opt-out among them; and a
-/// repeated bid or an idle tape price moves no order.
+/// repeated bid or an idle tape price moves no order. A market short is
+/// restricted, came in with a bid present and is adjusted (F1.2), so it is above
+/// its limit.
 fn check_reached(
     before: &Venue,
     after: &Venue,
@@ -156,6 +156,9 @@ fn check_reached(
         ensure(!short || order.price >= order.limit, "price below limit")?;
         let slides = short && order.slide != OPT_OUT;
         ensure(slides || !order.adjusted, "adjusted orders")?;
+        let follows = after.phase != 0 && order.entry_bid != 0 && order.adjusted;
+        let above = order.price > order.limit;
+        ensure(!order.market || (follows && above), "market shorts")?;
     }
     let idle = match *event {
         Event::Bid { price } => price == before.bid,
@@ -267,6 +270,7 @@ fn check_copy_out(venue: &Venue, spare: usize) -> Result<(), Fault> {
         adjusted: 7,
         used: 7,
         clear: 7,
+        market: 7,
     };
     let len = venue.orders.len();
     let mut run = vec![noise; (len + spare).saturating_sub(1)];

@@ -57,17 +57,17 @@ impl Pair {
 
     /// Compares a step, and counts what it got.
     fn apply(&mut self, step: &Step, counts: &mut Counts) -> Result<Applied, Fault> {
+        let read = read_record(step.record, 0);
+        let before = self.sides.venue.clone();
         let applied = self.applier.call(&mut self.sides, step);
-        let applied = applied.map_err(|fault| {
-            let read = read_record(step.record, 0);
-            format!("{fault}\n  in {read:?}")
-        })?;
-        match applied.answer {
-            Err(refusal) => counts.refuse(refusal),
-            Ok(count) => {
+        let applied = applied.map_err(|fault| format!("{fault}\n  in {read:?}"))?;
+        match (read, applied.answer) {
+            (Err(refusal), _) => counts.refuse_record(refusal),
+            (Ok((event, _)), Err(refusal)) => counts.refuse(&event, refusal),
+            (Ok((event, _)), Ok(count)) => {
                 let reports = Report::read_all(&applied.bytes);
                 let reports = reports.map_err(|refusal| format!("reports: {refusal:?}"))?;
-                counts.accept(count, &reports);
+                counts.accept(&before, &event, count, &reports);
             }
         }
         Ok(applied)

@@ -1,10 +1,11 @@
 //! What a run counts, and the buffer that it lends.
 
+use crate::market_orders::MarketOrders;
 #[cfg(feature = "engine")]
 use crate::model::Stop;
-use crate::model::{Refusal, Report};
+use crate::model::{Event, Refusal, Report, Venue};
 use crate::rng::Rng;
-use crate::streams::{Kind, MOST_BUFFER};
+use crate::streams::{Kind, Session, MOST_BUFFER};
 use std::fmt;
 
 /// How many differences are printed in full.
@@ -12,13 +13,13 @@ const MOST_PRINTED: u64 = 10;
 
 /// How often a call was accepted, and how often refused with which number.
 #[derive(Default)]
-struct Answers {
+pub struct Answers {
     accepted: u64,
     refused: [u64; 17],
 }
 
 impl Answers {
-    fn add<T>(&mut self, answer: Result<T, Refusal>) {
+    pub fn add<T>(&mut self, answer: Result<T, Refusal>) {
         match answer {
             Ok(_) => self.accepted += 1,
             Err(refusal) => self.refused[refusal as usize] += 1,
@@ -47,6 +48,7 @@ pub struct Counts {
     executions: u64,
     repricings: u64,
     most_bytes: usize,
+    market_orders: MarketOrders,
     #[cfg(feature = "engine")]
     host: HostCounts,
 }
@@ -81,16 +83,26 @@ struct PlayCounts {
 }
 
 impl Counts {
-    pub fn session(&mut self, kind: Kind) {
-        self.sessions[kind as usize] += 1;
+    pub fn session(&mut self, session: &Session) {
+        self.sessions[session.kind as usize] += 1;
+        self.market_orders.start(&session.start);
     }
 
-    pub fn refuse(&mut self, refusal: Refusal) {
+    /// A record that can't be read.
+    pub fn refuse_record(&mut self, refusal: Refusal) {
         self.answers.add::<()>(Err(refusal));
     }
 
-    pub fn accept(&mut self, bytes: usize, reports: &[Report]) {
+    pub fn refuse(&mut self, event: &Event, refusal: Refusal) {
+        self.answers.add::<()>(Err(refusal));
+        self.market_orders.refuse(event, refusal);
+    }
+
+    /// An accepted event, with the venue before it, the byte count of its
+    /// reports and these.
+    pub fn accept(&mut self, before: &Venue, event: &Event, bytes: usize, reports: &[Report]) {
         self.answers.add(Ok(()));
+        self.market_orders.accept(before, event, reports);
         self.most_bytes = self.most_bytes.max(bytes);
         for report in reports {
             match report {
@@ -230,6 +242,7 @@ impl fmt::Display for Counts {
             self.executions, self.repricings, self.most_bytes
         )?;
         writeln!(f, "{}", self.answers)?;
+        writeln!(f, "{}", self.market_orders)?;
         #[cfg(feature = "engine")]
         if self.host.copies.accepted > 0 {
             write!(f, "{}", self.host)?;

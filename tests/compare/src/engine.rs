@@ -24,8 +24,8 @@ const ORDER_WORDS: usize = (VENUE_WORDS - HEADER_WORDS) / PLACES;
 /// The places of the count of orders and of the layout's number.
 pub const COUNT_AT: usize = 0;
 pub const LAYOUT_AT: usize = HEADER_WORDS - 1;
-/// The flags of an order: adjusted, used, clear.
-pub const FLAGS: usize = 3;
+/// The flags of an order: adjusted, used, clear, market.
+pub const FLAGS: usize = 4;
 
 // The calls of include/venue.h; a slice is a pointer and a length.
 extern "C" {
@@ -183,7 +183,7 @@ pub fn fresh_words(venue: &Venue) -> Vec<u32> {
     words
 }
 
-/// The layout of an order, whose last three words are flags.
+/// The layout of an order, whose last four words are flags.
 fn words_of(order: &Order) -> [u32; ORDER_WORDS] {
     [
         order.id,
@@ -199,6 +199,7 @@ fn words_of(order: &Order) -> [u32; ORDER_WORDS] {
         order.adjusted.into(),
         order.used.into(),
         order.clear.into(),
+        order.market.into(),
     ]
 }
 

@@ -1,6 +1,6 @@
 //! Venue records that open need not reach, sound and spoilt.
 
-use crate::model::{Order, Venue, HIGHEST, MOST_EVENTS, MOST_SHARES, PLACES, SHORT};
+use crate::model::{Order, Venue, HIGHEST, LOWEST, MOST_EVENTS, MOST_SHARES, PLACES, SHORT};
 use crate::rng::Rng;
 use crate::streams::{near, odd_number, price_of, Market};
 
@@ -21,7 +21,8 @@ fn shuffle(rng: &mut Rng, numbers: &mut [u32]) {
 }
 
 /// A sound venue record that open need not reach: crossed books, prices below
-/// limits, any flags, full books, last numbers close to their ends.
+/// limits, any flags, market shorts in any phase, full books, last numbers close
+/// to their ends.
 pub fn made_up(rng: &mut Rng, market: &Market) -> Venue {
     let most = PLACES as u32;
     let (few, some) = (rng.up_to(8), rng.up_to(most));
@@ -52,10 +53,12 @@ pub fn made_up(rng: &mut Rng, market: &Market) -> Venue {
 
 fn made_up_order(rng: &mut Rng, market: &Market, id: u32, stamp: u32) -> Order {
     let mark = rng.pick(market.marks);
+    let lowest = mark == SHORT && rng.one_in(3);
+    let limit = near(rng, market.centre, market.reach);
     Order {
         id,
         mark,
-        limit: near(rng, market.centre, market.reach),
+        limit: if lowest { LOWEST } else { limit },
         shares: rng.pick(&[1, 2, 3, 5, 100, MOST_SHARES]),
         show: rng.up_to(1),
         life: 0,
@@ -69,6 +72,7 @@ fn made_up_order(rng: &mut Rng, market: &Market, id: u32, stamp: u32) -> Order {
         adjusted: rng.one_in(2),
         used: rng.one_in(2),
         clear: rng.one_in(2),
+        market: lowest && !rng.one_in(3),
     }
 }
 
@@ -114,7 +118,7 @@ pub fn spoil_record(rng: &mut Rng, venue: &mut Venue) {
 fn spoil_order(rng: &mut Rng, venue: &mut Venue, at: usize, other: usize, odd: u32) {
     let (id, stamp) = (venue.orders[other].id, venue.orders[other].stamp);
     let order = &mut venue.orders[at];
-    match rng.up_to(12) {
+    match rng.up_to(17) {
         0 => order.id = id,
         1 => order.id = odd,
         2 => order.mark = odd,
@@ -126,6 +130,28 @@ fn spoil_order(rng: &mut Rng, venue: &mut Venue, at: usize, other: usize, odd: u
         8..10 => order.stamp = stamp,
         10 => order.stamp = odd,
         11 => order.price = odd,
-        _ => order.entry_bid = rng.pick(&[odd, HIGHEST]),
+        12 => order.entry_bid = rng.pick(&[odd, HIGHEST]),
+        _ => flag_order(rng, order, odd),
+    }
+}
+
+/// Makes an order a market short as far as the flag goes: with whatever mark and
+/// limit it has, a short with limit 1, which is one, with another mark, with
+/// another limit.
+fn flag_order(rng: &mut Rng, order: &mut Order, odd: u32) {
+    order.market = true;
+    let drawn = rng.up_to(4);
+    if drawn > 0 {
+        order.mark = SHORT;
+        order.limit = LOWEST;
+    }
+    match drawn {
+        2 => {
+            order.mark = rng.pick(&[0, 1, 3]);
+            order.slide = 0;
+        }
+        3 => order.limit = rng.pick(&[LOWEST + 1, order.price, HIGHEST]),
+        4 => order.limit = odd,
+        _ => {}
     }
 }

@@ -1,10 +1,11 @@
-//! A second implementation of document 01's venue, and its comparison with the
-//! proved engine. See README.md.
+//! A second implementation of the venue of document 01 and of No. 1 of document
+//! 02, and its comparison with the proved engine. See README.md.
 
 mod account;
 #[cfg(feature = "engine")]
 mod applier;
 mod bench;
+mod by_limits;
 #[cfg(feature = "engine")]
 mod caller;
 mod check;
@@ -14,6 +15,9 @@ mod counts;
 #[cfg(feature = "engine")]
 mod engine;
 mod made_up;
+#[cfg(test)]
+mod market_days;
+mod market_orders;
 mod model;
 #[cfg(feature = "engine")]
 mod observe;

@@ -1,6 +1,6 @@
-//! A plain implementation of document 01, written from the paper and the
-//! readings alone. Comments in quotation marks are sentences of the paper,
-//! letters with numbers (A1, C7) are readings.
+//! A plain implementation of document 01 and, of document 02, of No. 1, written
+//! from the papers and the readings alone. Comments in quotation marks are
+//! sentences of the papers, letters with numbers (A1, F1.3) are readings.
 
 mod book;
 mod form;
@@ -18,7 +18,7 @@ pub use play::Progress;
 pub use play::Stop;
 pub use prices::{
     is_legal, permitted_price, phase_after_day_end, phase_after_tape, watch_tape, Watch, DOLLAR,
-    HIGHEST, HIGHEST_BID, STEP,
+    HIGHEST, HIGHEST_BID, LOWEST, STEP,
 };
 pub use venue::{RecordCheck, Venue, LEAST_BUFFER, MOST_EVENTS, MOST_SHARES};
 

@@ -168,6 +168,7 @@ fn any_record(rng: &mut Rng) -> OrderRecord {
         adjusted: rng.word(),
         used: rng.word(),
         clear: rng.word(),
+        market: rng.word(),
     }
 }
 

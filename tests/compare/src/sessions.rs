@@ -8,6 +8,14 @@ use crate::streams::{Session, Step};
 /// What differs, or a claim that failed.
 pub type Fault = String;
 
+pub fn ensure(condition: bool, claim: &str) -> Result<(), Fault> {
+    if condition {
+        Ok(())
+    } else {
+        Err(claim.to_owned())
+    }
+}
+
 /// One who looks at sessions, event by event.
 pub trait Examiner {
     fn start(&mut self, seed: u64, session: &Session, counts: &mut Counts) -> Result<(), Fault>;
@@ -43,7 +51,7 @@ pub fn run(seed: u64, events: u64, examiner: &mut impl Examiner) -> bool {
 
 fn play(seed: u64, examiner: &mut impl Examiner, counts: &mut Counts) -> Result<(), Fault> {
     let mut session = Session::new(seed);
-    counts.session(session.kind);
+    counts.session(&session);
     examiner.start(seed, &session, counts)?;
     while let Some(step) = session.next(examiner.venue()) {
         counts.events += 1;

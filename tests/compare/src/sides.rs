@@ -151,13 +151,13 @@ impl Sides {
     fn spoil(&mut self, rng: &mut Rng) {
         let len = self.venue.orders.len();
         match rng.up_to(39) {
-            0 if len > 0 => {
+            0..3 if len > 0 => {
                 let flag = engine::flag_at(rng.place(len), rng.place(engine::FLAGS));
                 self.words[flag] = rng.pick(&[2, 3, 256, u32::MAX]);
             }
-            1 => self.words[engine::COUNT_AT] = rng.pick(&[257, 1 << 16, 1 << 31, u32::MAX]),
-            2 => self.lent_words = rng.pick(&[0, 1, 15, 16, 100, engine::VENUE_WORDS - 1]),
-            3 => {
+            3 => self.words[engine::COUNT_AT] = rng.pick(&[257, 1 << 16, 1 << 31, u32::MAX]),
+            4 => self.lent_words = rng.pick(&[0, 1, 15, 16, 100, engine::VENUE_WORDS - 1]),
+            5 => {
                 let others = [0, engine::LAYOUT - 1, engine::LAYOUT + 1, u32::MAX];
                 self.words[engine::LAYOUT_AT] = rng.pick(&others);
             }

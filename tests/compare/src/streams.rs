@@ -4,7 +4,7 @@
 use crate::made_up::{made_up, sink_shorts, spoil_record};
 use crate::model::{
     read_record, write_number, write_record, Entry, Event, RecordCheck, Venue, DOLLAR, HIGHEST,
-    HIGHEST_BID, LEAST_BUFFER, LONGEST_NUMBER, MOST_EVENTS, MOST_SHARES, SHORT, STEP,
+    HIGHEST_BID, LEAST_BUFFER, LONGEST_NUMBER, LOWEST, MOST_EVENTS, MOST_SHARES, SHORT, STEP,
 };
 use crate::rng::Rng;
 
@@ -47,7 +47,8 @@ fn bid_near(rng: &mut Rng, rung: u32, reach: u32) -> u32 {
 }
 
 /// Where a session trades, how far from there, and how often in a hundred
-/// events something other than an entry comes.
+/// events something other than an entry comes; how many of a hundred entries are
+/// market orders, and how many of twenty bids are none or the lowest.
 pub struct Market {
     pub centre: u32,
     pub reach: u32,
@@ -56,6 +57,9 @@ pub struct Market {
     bids: u32,
     tapes: u32,
     quiet_days: u32,
+    market_orders: u32,
+    no_bids: u32,
+    lowest_bids: u32,
 }
 
 /// How often each mark comes: mixed, mostly shorts, hardly any short.
@@ -75,6 +79,9 @@ impl Market {
             tapes: rng.pick(&[2, 6]),
             quiet_days: rng.pick(&[60, 400, 2_000]),
             marks: rng.pick(&[MIXED, MIXED, MIXED, SHORTS, OTHERS]),
+            market_orders: rng.pick(&[0, 4, 20, 50]),
+            no_bids: rng.pick(&[1, 1, 6]),
+            lowest_bids: rng.pick(&[0, 0, 1]),
         }
     }
 
@@ -106,11 +113,18 @@ impl Market {
 
     /// The bid walks, at times back to the centre and at times away.
     pub fn bid(&self, rng: &mut Rng, present: u32) -> u32 {
-        match rng.up_to(19) {
-            0 => 0,
-            1..6 => bid_near(rng, self.centre, self.reach),
-            _ if present == 0 => bid_near(rng, self.centre, 2),
-            _ => bid_near(rng, rung_of(present), 3),
+        let drawn = rng.up_to(19);
+        let away = self.no_bids + self.lowest_bids;
+        if drawn < self.no_bids {
+            0
+        } else if drawn < away {
+            LOWEST
+        } else if drawn < away + 5 {
+            bid_near(rng, self.centre, self.reach)
+        } else if present == 0 {
+            bid_near(rng, self.centre, 2)
+        } else {
+            bid_near(rng, rung_of(present), 3)
         }
     }
 
@@ -135,7 +149,7 @@ impl Market {
         Entry {
             id: venue.last_id.saturating_add(gap),
             mark,
-            price: near(rng, around, self.reach),
+            price: self.price(rng, around),
             shares: rng.pick(&[few, few, many, MOST_SHARES]),
             show: rng.pick(&[0, 1, 1]),
             life: rng.pick(&[0, 0, 0, 0, 0, 1]),
@@ -143,6 +157,20 @@ impl Market {
                 SHORT => rng.pick(&[0, 0, 1, 1, 2, 3]),
                 _ => 0,
             },
+        }
+    }
+
+    /// The price of an entry: where there are market orders, at times 0, and at
+    /// times 1, which is the limit of a market short.
+    fn price(&self, rng: &mut Rng, around: u32) -> u32 {
+        let price = near(rng, around, self.reach);
+        if self.market_orders == 0 {
+            return price;
+        }
+        match rng.up_to(99) {
+            drawn if drawn < self.market_orders => 0,
+            95.. => LOWEST,
+            _ => price,
         }
     }
 }
@@ -458,7 +486,8 @@ impl Trace {
 }
 
 /// A sound stream that keeps about so many orders resting, with the restriction
-/// on, and holds so many events.
+/// on, and holds so many events. It has no market orders, so that its figures
+/// can be held against those from before there were any.
 pub fn trace(seed: u64, resting: usize, events: usize) -> Trace {
     let mut rng = Rng::new(seed);
     let market = Market {
@@ -469,6 +498,9 @@ pub fn trace(seed: u64, resting: usize, events: usize) -> Trace {
         tapes: 3,
         quiet_days: u32::MAX,
         marks: MIXED,
+        market_orders: 0,
+        no_bids: 1,
+        lowest_bids: 0,
     };
     let mut venue = Venue::fresh(100_000);
     let mut buffer = vec![0; LEAST_BUFFER];

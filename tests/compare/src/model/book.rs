@@ -1,6 +1,6 @@
 //! "Orders": resting orders, the best opposite order, copy out and depth.
 
-use super::prices::{is_bid, is_legal, HIGHEST};
+use super::prices::{is_bid, is_legal, HIGHEST, LOWEST};
 use super::venue::MOST_SHARES;
 use super::{Refusal, Venue};
 
@@ -23,7 +23,8 @@ pub const DAY: u32 = 0;
 pub const IMMEDIATE: u32 = 1;
 
 /// A resting order: the entry's fields and what "The venue adds". "A resting
-/// order's shares are those left."
+/// order's shares are those left." Market: "a resting market short stays where
+/// it is, so the order record says that it is one".
 #[derive(Clone, Copy, Debug, PartialEq, Eq)]
 pub struct Order {
     pub id: u32,
@@ -39,6 +40,7 @@ pub struct Order {
     pub adjusted: bool,
     pub used: bool,
     pub clear: bool,
+    pub market: bool,
 }
 
 impl Order {
@@ -52,6 +54,13 @@ impl Order {
             && self.life == DAY
             && is_slide(self.slide, self.mark)
             && is_bid(self.entry_bid)
+            && (!self.market || self.may_be_market())
+    }
+
+    /// "said of anything but a short with limit 1, that breaks the venue
+    /// record"; neither the phase nor the present price matters (F1.4).
+    fn may_be_market(&self) -> bool {
+        self.mark == SHORT && self.limit == LOWEST
     }
 
     /// "Best is by price, then displayed before not, then lower stamp": the
@@ -83,6 +92,7 @@ pub struct OrderRecord {
     pub adjusted: u32,
     pub used: u32,
     pub clear: u32,
+    pub market: u32,
 }
 
 impl From<&Order> for OrderRecord {
@@ -101,6 +111,7 @@ impl From<&Order> for OrderRecord {
             adjusted: order.adjusted.into(),
             used: order.used.into(),
             clear: order.clear.into(),
+            market: order.market.into(),
         }
     }
 }
@@ -207,6 +218,15 @@ mod tests {
             adjusted: false,
             used: false,
             clear: true,
+            market: false,
+        }
+    }
+
+    fn market_short() -> Order {
+        Order {
+            limit: 1,
+            market: true,
+            ..order(1, SHORT, 1)
         }
     }
 
@@ -235,6 +255,52 @@ mod tests {
         assert_eq!((run[0].adjusted, run[0].used, run[0].clear), (0, 0, 1));
         let broken = Venue { phase: 3, ..venue };
         assert_eq!(copy_out(&broken, &mut []), Err(Refusal::VenueRecord));
+    }
+
+    #[test]
+    fn copy_out_says_which_order_is_a_market_short() {
+        let venue = Venue {
+            last_id: 2,
+            last_stamp: 2,
+            accepted: 2,
+            orders: vec![market_short(), order(2, SHORT, 1)],
+            ..Venue::fresh(100_000)
+        };
+        let mut run = [record(9, 9, 9); 2];
+        assert_eq!(copy_out(&venue, &mut run), Ok(2));
+        assert_eq!(
+            run.map(|record| (record.limit, record.market)),
+            [(1, 1), (90_000, 0)]
+        );
+    }
+
+    /// "said of anything but a short with limit 1, that breaks the venue record"
+    #[test]
+    fn only_a_short_with_limit_1_is_a_market_short() {
+        let short = market_short();
+        for slide in 0..=OPT_OUT {
+            for price in [1, 2, 90_000, HIGHEST] {
+                for show in [0, 1] {
+                    let sound = Order {
+                        slide,
+                        price,
+                        show,
+                        ..short
+                    };
+                    assert!(sound.is_sound(), "{sound:?}");
+                }
+            }
+        }
+        let marks = [BUY, 1, 3].map(|mark| Order { mark, ..short });
+        let limits = [2, 100, 90_000, HIGHEST].map(|limit| Order { limit, ..short });
+        for order in marks.into_iter().chain(limits) {
+            assert!(!order.is_sound(), "{order:?}");
+            let plain = Order {
+                market: false,
+                ..order
+            };
+            assert!(plain.is_sound(), "{plain:?}");
+        }
     }
 
     #[test]

@@ -63,7 +63,8 @@ fn read_fields<const N: usize>(bytes: &[u8], mut at: usize) -> Result<([u32; N],
     Ok((fields, at))
 }
 
-/// "Entry: id; mark; price, which is its limit; shares; show; life; slide"
+/// "Entry: id; mark; price, which is its limit; shares; show; life; slide". "A
+/// price of 0 in an entry means market."
 #[derive(Clone, Copy, Debug, PartialEq, Eq)]
 pub struct Entry {
     pub id: u32,
@@ -73,6 +74,12 @@ pub struct Entry {
     pub show: u32,
     pub life: u32,
     pub slide: u32,
+}
+
+impl Entry {
+    pub fn is_market(&self) -> bool {
+        self.price == 0
+    }
 }
 
 /// "kind 1 entry (fields as listed), 2 cancel (id), 3 bid, 4 tape, 5 day end

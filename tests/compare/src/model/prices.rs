@@ -4,13 +4,14 @@ use super::Refusal;
 
 /// "A price is a 32-bit whole number of ten-thousandths of a dollar, legal
 /// from 1 to 100,000,000; from 10,000 up it is a multiple of 100."
+pub const LOWEST: u32 = 1;
 pub const HIGHEST: u32 = 100_000_000;
 pub const DOLLAR: u32 = 10_000;
 pub const STEP: u32 = 100;
 pub const HIGHEST_BID: u32 = HIGHEST - STEP;
 
 pub fn is_legal(price: u32) -> bool {
-    (1..=HIGHEST).contains(&price) && (price < DOLLAR || price.is_multiple_of(STEP))
+    (LOWEST..=HIGHEST).contains(&price) && (price < DOLLAR || price.is_multiple_of(STEP))
 }
 
 /// "A bid is 0 (no bid) or a legal price up to 99,999,900."

@@ -6,7 +6,9 @@ use super::book::{
     OPT_OUT, PLACES, SHORT,
 };
 use super::form::{Entry, Event, Report, ReportWriter};
-use super::prices::{is_bid, is_legal, permitted, phase_after_day_end, phase_after_tape};
+use super::prices::{
+    is_bid, is_legal, permitted, phase_after_day_end, phase_after_tape, HIGHEST, LOWEST,
+};
 use super::Refusal;
 
 /// "1 if the buffer has under 16,384 bytes"
@@ -165,14 +167,16 @@ impl Venue {
     }
 
     /// "Entry then: 3 price not legal; 4 shares; 5 mark, show, life or slide; 6
-    /// id not above the last accepted id (0 never is); 7 if 256 orders rest."
+    /// id not above the last accepted id (0 never is); 7 if 256 orders rest." And
+    /// "refusal 3 no longer meets an entry price of 0", the others do (F1.6).
     fn refuse_entry(&self, entry: &Entry) -> Result<(), Refusal> {
         let codes = entry.mark <= HIGHEST_MARK
             && entry.show <= DISPLAYED
             && entry.life <= IMMEDIATE
             && is_slide(entry.slide, entry.mark);
         let shares = (1..=MOST_SHARES).contains(&entry.shares);
-        refuse_unless(is_legal(entry.price), Refusal::Price)?;
+        let price = entry.is_market() || is_legal(entry.price);
+        refuse_unless(price, Refusal::Price)?;
         refuse_unless(shares, Refusal::Shares)?;
         refuse_unless(codes, Refusal::Code)?;
         refuse_unless(entry.id > self.last_id, Refusal::Id)?;
@@ -183,24 +187,26 @@ impl Venue {
     /// larger of limit and permitted price, adjusted if that is above the
     /// limit. It then matches."
     fn enter(&mut self, entry: &Entry, reports: &mut ReportWriter) {
-        let mut price = entry.price;
+        let limit = limit_of(entry);
+        let mut price = limit;
         if self.restricts(entry.mark) {
             price = price.max(permitted(self.bid));
         }
         let mut order = Order {
             id: entry.id,
             mark: entry.mark,
-            limit: entry.price,
+            limit,
             shares: entry.shares,
             show: entry.show,
-            life: entry.life,
+            life: self.life_of(entry),
             slide: entry.slide,
             stamp: self.next_stamp(),
             price,
             entry_bid: self.bid,
-            adjusted: price > entry.price,
+            adjusted: price > limit,
             used: false,
             clear: self.bid == 0 || self.bid < price,
+            market: self.is_market_short(entry),
         };
         self.last_id = order.id;
         reports.put(Report::Accepted {
@@ -211,6 +217,23 @@ impl Venue {
         self.trade(&mut order, reports);
         if order.shares > 0 {
             self.keep_remainder(order, reports);
+        }
+    }
+
+    /// "A restricted short with a bid present instead counts as limit 1 and
+    /// slides, rests or is cancelled by 01's rules, its life included."
+    /// Restricted and bid are those at its entry (F1.2).
+    fn is_market_short(&self, entry: &Entry) -> bool {
+        entry.is_market() && self.restricts(entry.mark) && self.bid != 0
+    }
+
+    /// The life that counts: any other market order works "as immediate or
+    /// cancel", whatever its own life (F1.1).
+    fn life_of(&self, entry: &Entry) -> u32 {
+        if entry.is_market() && !self.is_market_short(entry) {
+            IMMEDIATE
+        } else {
+            entry.life
         }
     }
 
@@ -315,6 +338,8 @@ impl Venue {
     }
 
     /// What the pass does to a restricted order:
+    /// - "With no bid a resting market short stays where it is", under every
+    ///   slide code, and once isn't used by it (F1.3).
     /// - "If price ≤ bid, and it is not displayed or not clear: opt-out is
     ///   cancelled (cause 3), any other is re-priced to the permitted price and
     ///   becomes adjusted."
@@ -323,6 +348,9 @@ impl Venue {
     ///   larger of limit and entry bid, moves if bid < t < price, and is then
     ///   used."
     fn turn(&self, order: &Order) -> Turn {
+        if order.market && self.bid == 0 {
+            return Turn::Stay;
+        }
         let permitted = permitted(self.bid);
         if order.price <= self.bid && (order.show != DISPLAYED || !order.clear) {
             return match order.slide {
@@ -346,8 +374,9 @@ impl Venue {
     }
 
     /// "A re-priced order gets a new stamp, is clear, and matches as if it came
-    /// in." Its old record stays in its place while it works, where only buys
-    /// are looked for and it is none. Gives where the next id lies.
+    /// in." A market short stays one. The old record stays in its place while it
+    /// works, where only buys are looked for and it is none. Gives where the
+    /// next id lies.
     fn reprice(&mut self, order: Order, price: u32, reports: &mut ReportWriter) -> usize {
         let mut working = Order {
             price,
@@ -384,6 +413,16 @@ impl Venue {
     }
 }
 
+/// "price, which is its limit". Of a market order: "A buy works at 100,000,000
+/// and any sell at 1", and a market short "counts as limit 1".
+fn limit_of(entry: &Entry) -> u32 {
+    match entry.mark {
+        BUY if entry.is_market() => HIGHEST,
+        _ if entry.is_market() => LOWEST,
+        _ => entry.price,
+    }
+}
+
 fn refuse_unless(condition: bool, refusal: Refusal) -> Result<(), Refusal> {
     if condition {
         Ok(())
@@ -397,5 +436,117 @@ fn cancelled(order: &Order, cause: u32) -> Report {
         id: order.id,
         shares: order.shares,
         cause,
+    }
+}
+
+#[cfg(test)]
+mod tests {
+    use super::*;
+
+    /// A venue with the restriction on and a market short that came in at this
+    /// bid.
+    fn with_market_short(bid: u32) -> Venue {
+        let mut venue = Venue {
+            phase: 1,
+            bid,
+            ..Venue::fresh(100_000)
+        };
+        let entry = Entry {
+            id: 7,
+            mark: SHORT,
+            price: 0,
+            shares: 5,
+            show: 0,
+            life: 0,
+            slide: ONCE,
+        };
+        assert!(apply(&mut venue, Event::Entry(entry)).is_ok());
+        venue
+    }
+
+    fn apply(venue: &mut Venue, event: Event) -> Result<Vec<Report>, Refusal> {
+        let mut buffer = [0; LEAST_BUFFER];
+        let count = venue.apply(&event, &mut buffer, RecordCheck::Done)?;
+        Report::read_all(&buffer[..count])
+    }
+
+    /// "counts as limit 1", "so the order record says that it is one"
+    #[test]
+    fn the_record_of_a_market_short() {
+        let short = Order {
+            id: 7,
+            mark: SHORT,
+            limit: 1,
+            shares: 5,
+            show: 0,
+            life: 0,
+            slide: ONCE,
+            stamp: 1,
+            price: 91_100,
+            entry_bid: 91_000,
+            adjusted: true,
+            used: false,
+            clear: true,
+            market: true,
+        };
+        let mut venue = with_market_short(91_000);
+        assert_eq!(venue.orders, [short]);
+        assert!(apply(&mut venue, Event::Bid { price: 90_000 }).is_ok());
+        let slid = Order {
+            stamp: 2,
+            price: 91_000,
+            used: true,
+            ..short
+        };
+        assert_eq!(venue.orders, [slid]);
+        assert_eq!(with_market_short(1).orders[0].price, 2);
+    }
+
+    /// Whatever else its record says, and in every phase (D1).
+    #[test]
+    fn any_market_short_stays_with_no_bid() {
+        let start = with_market_short(91_000);
+        for code in 0..768 {
+            let bit = |number: u32| code >> number & 1 == 1;
+            let mut venue = start.clone();
+            venue.phase = code >> 8;
+            let order = &mut venue.orders[0];
+            order.slide = code & 3;
+            order.show = code >> 2 & 1;
+            (order.adjusted, order.used, order.clear) = (bit(3), bit(4), bit(5));
+            order.price = if bit(6) { 1 } else { 91_100 };
+            order.entry_bid = if bit(7) { 0 } else { 80_000 };
+            let before = venue.orders.clone();
+            assert_eq!(apply(&mut venue, Event::Bid { price: 0 }), Ok(vec![]));
+            let on = match venue.phase {
+                0 => vec![Report::RestrictionOn],
+                _ => vec![],
+            };
+            assert_eq!(apply(&mut venue, Event::Tape { price: 90_000 }), Ok(on));
+            assert_eq!(venue.orders, before);
+        }
+    }
+
+    /// "said of anything but a short with limit 1, that breaks the venue record"
+    #[test]
+    fn a_wrong_market_short_breaks_the_venue_record() {
+        let sound = with_market_short(91_000);
+        for phase in 0..=2 {
+            let mut venue = sound.clone();
+            venue.phase = phase;
+            assert!(apply(&mut venue, Event::Cancel { id: 7 }).is_ok());
+        }
+        let mut exempt = sound.clone();
+        (exempt.orders[0].mark, exempt.orders[0].slide) = (3, 0);
+        let mut higher = sound.clone();
+        higher.orders[0].limit = 2;
+        for broken in [exempt, higher] {
+            let mut venue = broken.clone();
+            let answer = apply(&mut venue, Event::Cancel { id: 7 });
+            assert_eq!(answer, Err(Refusal::VenueRecord));
+            assert_eq!(venue, broken);
+            venue.orders[0].market = false;
+            assert!(apply(&mut venue, Event::Cancel { id: 7 }).is_ok());
+        }
     }
 }
