@@ -1,6 +1,7 @@
 /* A small study: a short sale order slides over a day with a falling and rising national bid while the restriction is on.
    It shows how a host plays a run of event records by venue_play, takes each event's bytes out by the ends, and goes on where a call stopped.
-   It prints, from these bytes alone, what becomes of order 1, and before the day ends the order as copy out gives it.
+   It prints, from these bytes alone, what becomes of order 1, and before the day ends the resting orders as copy out gives them, a market short
+   among them.
    examples/study.py is the same in Python.
    Build and run, from the repository's root:
    rt staticlib host && cc -Wall -Wextra -Iinclude examples/study.c target/staticlib/libhost.a -o target/study && target/study */
@@ -31,6 +32,8 @@ static const struct event day[] = {
     {"2 buys 200, 90600", 8, {ENTRY, 2, 0, 90600, 200, 1, 0, 0}},
     {"bid 90000", 2, {BID, 90000}},
     {"cancel 2", 2, {CANCEL, 2}},
+    /* a price of 0 means market: this one follows the bid */
+    {"3 sells 100 short", 8, {ENTRY, 3, 2, 0, 100, 1, 0, 0}},
     {"day end, close 90000", 2, {DAY_END, 90000}},
 };
 
@@ -178,8 +181,9 @@ static void show_book(void)
     for (uint32_t i = 0; i < count; i++) {
         const struct venue_order *o = &run[i];
         printf("resting: order %" PRIu32 ", %" PRIu32 " left at %" PRIu32 ", limit %" PRIu32 ", entry bid %" PRIu32 ", adjusted %" PRIu32 ", used %" PRIu32
-               ", clear %" PRIu32 "; displayed there: %" PRIu64 "\n",
-               o->id, o->shares, o->price, o->limit, o->entry_bid, o->adjusted, o->used, o->clear, venue_depth(run, count, o->price, o->mark));
+               ", clear %" PRIu32 ", market %" PRIu32 "; displayed there: %" PRIu64 "\n",
+               o->id, o->shares, o->price, o->limit, o->entry_bid, o->adjusted, o->used, o->clear, o->market,
+               venue_depth(run, count, o->price, o->mark));
     }
 }
 

@@ -1,7 +1,8 @@
 """A small study: a short sale order slides over a day with a falling and rising national bid while the restriction is on.
 
 It shows how a host plays a run of event records by venue_play, takes each event's bytes out by the ends, and goes on where a call stopped.
-It prints, from these bytes alone, what becomes of order 1, and before the day ends the order as copy out gives it.
+It prints, from these bytes alone, what becomes of order 1, and before the day ends the resting orders as copy out gives them, a market short
+among them.
 examples/study.c is the same in C.
 Build and run, from the repository's root:
 rt staticlib host && cc -shared -o target/libvenue.so -Wl,--whole-archive target/staticlib/libhost.a -Wl,--no-whole-archive && python3 examples/study.py
@@ -24,6 +25,8 @@ DAY = [
     ("2 buys 200, 90600", (ENTRY, 2, 0, 90600, 200, 1, 0, 0)),
     ("bid 90000", (BID, 90000)),
     ("cancel 2", (CANCEL, 2)),
+    # a price of 0 means market: this one follows the bid
+    ("3 sells 100 short", (ENTRY, 3, 2, 0, 100, 1, 0, 0)),
     ("day end, close 90000", (DAY_END, 90000)),
 ]
 
@@ -39,7 +42,7 @@ VENUE_REPORTS_FULL = int(DEFINED["VENUE_REPORTS_FULL"])
 
 class Order(Structure):
     """The header's struct venue_order: one word a field."""
-    FIELDS = "id mark limit shares show life slide stamp price entry_bid adjusted used clear"
+    FIELDS = "id mark limit shares show life slide stamp price entry_bid adjusted used clear market"
     _fields_ = [(name, c_uint32) for name in FIELDS.split()]
 
 
@@ -158,7 +161,7 @@ def show_book():
     for o in run[:count]:
         shown = venue.venue_depth(run, count, o.price, o.mark)
         print(f"resting: order {o.id}, {o.shares} left at {o.price}, limit {o.limit}, entry bid {o.entry_bid}, adjusted {o.adjusted}, "
-              f"used {o.used}, clear {o.clear}; displayed there: {shown}")
+              f"used {o.used}, clear {o.clear}, market {o.market}; displayed there: {shown}")
 
 
 def main():

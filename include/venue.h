@@ -1,4 +1,5 @@
-/* The calls of the venue for host programs. Link target/staticlib/libhost.a, which `rt staticlib host` writes. */
+/* The calls of the venue for host programs. Link target/staticlib/libhost.a, which `rt staticlib host` writes, and compile with the header that
+   belongs to it: the size of an order record changes with the layout. */
 #ifndef VENUE_H
 #define VENUE_H
 
@@ -56,7 +57,7 @@ uint32_t venue_open(uint32_t *words, size_t words_length, uint32_t close);
        venue_play, whatever it answers
     1  the buffer has fewer than VENUE_REPORT_BYTES bytes
     2  the venue has accepted 16,777,215 events, the most it takes
-    3  a price, a bid or a close that isn't legal
+    3  a price, a bid or a close that isn't legal; the price 0 of an entry means market
     4  shares not 1 to 1,000,000
     5  mark, show, life or slide out of range, or a slide with a mark other than short
     6  the id isn't above that of the last accepted entry
@@ -102,12 +103,12 @@ uint64_t venue_record_check(const uint8_t *bytes, size_t length);
    0 on refusal: the number isn't a bid (3). A bid is 0 (no bid) or a legal price up to 99,999,900. */
 uint32_t venue_permitted_price(uint32_t bid);
 
-/* The record of an order: 13 words of 32 bits, 52 bytes with no padding, so that any bytes are a record. In what venue_copy_out writes, the price is
+/* The record of an order: 14 words of 32 bits, 56 bytes with no padding, so that any bytes are a record. In what venue_copy_out writes, the price is
    the present one and the shares are those left. */
 struct venue_order {
     uint32_t id;
     uint32_t mark;      /* 0 buy, 1 long sell, 2 short, 3 short exempt */
-    uint32_t limit;     /* the price of its entry */
+    uint32_t limit;     /* the price of its entry; 1 of a market short */
     uint32_t shares;
     uint32_t show;      /* 1 displayed, 0 not */
     uint32_t life;      /* 0 day */
@@ -118,7 +119,7 @@ struct venue_order {
     uint32_t adjusted;  /* 1: priced above its limit by the restriction at its entry, or re-priced since; else 0 */
     uint32_t used;      /* 1: with slide once, re-priced to the larger of limit and entry bid; else 0 */
     uint32_t clear;     /* 1: the bid was 0 or below the present price when that price was given; else 0 */
-    uint32_t market;
+    uint32_t market;    /* 1: a market short, which follows the bid and stays while there is none; else 0 */
 };
 
 /* Copies the resting orders to the front of the run, in rising id, and answers how many there are; the records behind them keep their content.

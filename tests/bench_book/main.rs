@@ -55,6 +55,7 @@ struct Order {
     adjusted: bool,
     used: bool,
     clear: bool,
+    market: bool,
 }
 
 struct Plain(Vec<Order>);
@@ -79,6 +80,7 @@ fn conditions(o: &Order, last_id: u32, last_stamp: u32) -> bool {
         && (1..=last_stamp).contains(&o.stamp)
         && legal(o.price)
         && is_bid(o.entry_bid)
+        && (!o.market || (o.mark == 2 && o.limit == 1))
 }
 
 impl Plain {
@@ -141,6 +143,7 @@ impl Plain {
             adjusted: false,
             used: false,
             clear: false,
+            market: false,
         };
         if self.0.last().map_or(true, |x| x.id <= id) {
             self.0.push(o);

@@ -8,7 +8,7 @@ pub mod sound;
 pub mod trade;
 pub mod words;
 
-// An order as document 01, "Orders", has it: the fields of its entry, then what the venue adds. `limit` is what counts as the
+// An order as document 01, "Orders", and document 02, No. 1, have it: the fields of its entry, then what the venue adds. `limit` is what counts as the
 // limit of the entry, `price` the present price, and `shares` those left.
 pub struct Order {
     pub id: u32,

@@ -4,13 +4,14 @@ use mathlib.Core.Path.{_≡_, refl, subst}
 use mathlib.Core.Bool.{Bool, true, false, not, _&&_}
 use mathlib.Core.Logic.{_⊎_, inl, inr}
 use mathlib.Core.Option.{Option, none, some}
-use mathlib.Core.List.{List, [], _∷_, List·Memᴰ, List·Memᴰ·head, List·Memᴰ·tail}
+use mathlib.Core.List.{List, [], _∷_, List·Memᴰ}
 use lib.Dec.{T, leb, leb→le, eqb→eq}
 use Rattle.numbers.specs.Tests.{pick, All}
 use Rattle.numbers.proofs.TestLaws.{by-test, pick-yes, pick-no, T-true, T-false, and-T, nand-T, notnot-T, neqb, tests, all-map}
 use Rattle.book.specs.declared.Order.{Order}
 use Rattle.book.specs.rules.Orders.{isBuy}
 use Rattle.book.specs.rules.Matching.{reaches, betterOf, bestFrom, best, counterparty}
+use Rattle.book.proofs.definitions.OrderLaws.{all-members}
 
 -- whom a working order reaches
 
@@ -103,10 +104,6 @@ bestFrom-none w (o ∷ os) x =
     more : Unreached w o → (r : Option Order) → IfNone (All (Unreached w) os) r → IfNone (All (Unreached w) (o ∷ os)) r
     more t none h = (t, h)
     more t (some y) h = tt
-
-all-members : (os : List Order) → All (λ (o : Order). List·Memᴰ o os) os
-all-members [] = tt
-all-members (x ∷ xs) = (List·Memᴰ·head refl, all-map (λ y m. List·Memᴰ·tail m) xs (all-members xs))
 
 pub counterparty-reached : (w : Order) (os : List Order) → Reached w os (counterparty w os)
 unfolding counterparty best

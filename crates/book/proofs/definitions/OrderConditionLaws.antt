@@ -2,10 +2,10 @@
 use Prim.Native.Nat.{ℕ, _≤_}
 use native.Mathlib.Omega.{arith}
 use mathlib.Core.Path.{_≡_}
-use mathlib.Core.Bool.{not, _&&_}
+use mathlib.Core.Bool.{Bool, true, false, not, _&&_}
 use mathlib.Core.Logic.{_⊎_, inl, inr}
 use lib.Dec.{T, eqb, leb→le, le→leb, eqb→eq, T-not}
-use Rattle.numbers.proofs.TestLaws.{and-T, or-T, Each, conj-T, T-conj, eq→T, tests}
+use Rattle.numbers.proofs.TestLaws.{and-T, T-and, or-T, Each, conj-T, T-conj, eq→T, tests}
 use Rattle.prices.specs.Prices.{legal, isBid}
 use Rattle.book.specs.declared.Order.{Order}
 use Rattle.book.specs.rules.Orders.{reduced}
@@ -46,6 +46,10 @@ market-short o t f = go (or-T (not (o .market)) (eqb (o .mark) 2 && eqb (o .limi
     go : T (not (o .market)) ⊎ T (eqb (o .mark) 2 && eqb (o .limit) 1) → (o.mark ≡ 2) × (o.limit ≡ 1)
     go (inl x) = absurd (T-not (o .market) x t)
     go (inr x) = let y = and-T (eqb (o .mark) 2) (eqb (o .limit) 1) x in (eqb→eq (o .mark) 2 (y .0), eqb→eq (o .limit) 1 (y .1))
+
+pub market-allowed : (market : Bool) (mark limit : ℕ) → (T market → (mark ≡ 2) × (limit ≡ 1)) → T (marketAllowed market mark limit)
+market-allowed true mark limit h = let k = h tt in T-and (eqb mark 2) _ (eq→T (k .0)) (eq→T (k .1))
+market-allowed false mark limit h = tt
 
 -- the order with q shares less
 pub mayWork-reduced : (n s q : ℕ) (o : Order) → MayWork n s o → MayWork n s (reduced q o)

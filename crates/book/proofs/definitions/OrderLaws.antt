@@ -7,7 +7,7 @@ use mathlib.Core.List.{List, [], _∷_, List·Memᴰ, List·Memᴰ·head, List·
 use lib.Dec.{eqb, eqb→eq, eqb-refl}
 use lib.ListN.{length}
 use Rattle.numbers.specs.Tests.{All}
-use Rattle.numbers.proofs.TestLaws.{by-test, pick-yes, pick-no, eq→T, ne→T, neqb}
+use Rattle.numbers.proofs.TestLaws.{by-test, pick-yes, pick-no, eq→T, ne→T, neqb, all-map}
 use Rattle.book.specs.declared.Order.{Order}
 use Rattle.book.specs.rules.Orders.{find, ifSame, restingShares, without, insert}
 use Rattle.book.proofs.definitions.ShareLaws.{ifSame-same, ifSame-other, ifSame-zero, ifSame-plus}
@@ -163,6 +163,12 @@ shares-none i (x ∷ xs) h = omega (arith, shares-none i xs (h .1), ifSame-other
 pub shares-found : {o : Order} {os : List Order} → List·Memᴰ o os → Distinct os → restingShares (o .id) os ≡ o.shares
 shares-found {o} {os} m d =
     omega (arith, taken-shares (mem-taken m d) (o .id), ifSame-same (o .id) (o .shares), shares-none (o .id) (without (o .id) os) (without-other (o .id) os))
+
+-- orders of the book
+
+pub all-members : (os : List Order) → All (λ (o : Order). List·Memᴰ o os) os
+all-members [] = tt
+all-members (x ∷ xs) = (List·Memᴰ·head refl, all-map (λ y m. List·Memᴰ·tail m) xs (all-members xs))
 
 -- one order that stays in the book
 

@@ -16,7 +16,7 @@ use Rattle.book.specs.steps.RecordWalk.{fromOne, codesSound, pricesSound
 use Rattle.book.proofs.definitions.OrderConditionLaws.{MayRest, order-mayRest}
 
 -- an order whose show is 0 or 1 and whose market flag is allowed
-pub sound-groups : (lastId lastStamp : ℕ) (o : Order) → o.show ≤ 1 → T (marketAllowed (o .market) (o .mark) (o .limit)) → soundOrder lastId lastStamp o ≡ (leb (o .id) lastId && (fromOne (o .shares) mostShares && (fromOne (o .stamp) lastStamp && (codesSound (o .mark) (o .life) (o .slide) && pricesSound (o .limit) (o .price) (o .«entry_bid»)))))
+sound-groups : (lastId lastStamp : ℕ) (o : Order) → o.show ≤ 1 → T (marketAllowed (o .market) (o .mark) (o .limit)) → soundOrder lastId lastStamp o ≡ (leb (o .id) lastId && (fromOne (o .shares) mostShares && (fromOne (o .stamp) lastStamp && (codesSound (o .mark) (o .life) (o .slide) && pricesSound (o .limit) (o .price) (o .«entry_bid»)))))
 unfolding soundOrder fromOne codesSound pricesSound
 sound-groups lastId lastStamp o h k = bool-ext _ _ there back
   where
@@ -38,6 +38,11 @@ sound-groups lastId lastStamp o h k = bool-ext _ _ there back
         let limit = and-T (legal (o .limit)) _ (d .1) in
         let price = and-T (legal (o .price)) _ (limit .1) in
         T-conj (orderConditions lastId lastStamp o) (a .0, (mark .0, (limit .0, (shares .0, (shares .1, (le→leb _ _ h, (life .0, (mark .1, (stamp .0, (stamp .1, (price .0, (price .1, (k, tt)))))))))))))
+
+-- the order at place i
+pub place-groups : (lastId lastStamp : ℕ) (w : List ℕ) (i : ℕ) → word w i 4 ≤ 1 → T (marketAt w i) → let o : Order = orderAt w i in soundOrder lastId lastStamp o ≡ (leb (o .id) lastId && (fromOne (o .shares) mostShares && (fromOne (o .stamp) lastStamp && (codesSound (o .mark) (o .life) (o .slide) && pricesSound (o .limit) (o .price) (o .«entry_bid»)))))
+unfolding marketAt
+place-groups lastId lastStamp w i h k = sound-groups lastId lastStamp (orderAt w i) h k
 
 -- the slide of a short, and that of another order
 

@@ -1,14 +1,14 @@
 -- The conditions of a venue record as facts, and that no event breaks those of the book and the market. Assumes nothing.
 use Prim.Native.Nat.{ℕ, _+_, _*_, _≤_, _<_, min}
 use native.Mathlib.Omega.{arith}
-use mathlib.Core.Path.{_≡_, refl, sym, subst}
-use mathlib.Core.Bool.{Bool, true, false}
+use mathlib.Core.Path.{_≡_, refl}
+use mathlib.Core.Bool.{Bool, true}
 use mathlib.Core.Option.{Option, none, some}
 use mathlib.Core.List.{List, [], _∷_, map, List·Memᴰ}
-use lib.Dec.{T, eqb, leb→le, le→leb, eqb→eq, T-not}
+use lib.Dec.{T, leb→le, le→leb, eqb→eq, T-not}
 use lib.ListN.{length, length-map}
 use Rattle.numbers.specs.Tests.{pick, All}
-use Rattle.numbers.proofs.TestLaws.{by-test, and-T, T-and, eq→T, Each, conj-T, T-conj, every-T, T-every, neqb, tests, all-map}
+use Rattle.numbers.proofs.TestLaws.{by-test, and-T, Each, conj-T, T-conj, every-T, T-every, neqb, tests, all-map}
 use Rattle.prices.specs.Prices.{legal, isBid}
 use Rattle.prices.proofs.RestrictionLaws.{tape-phase, day-end-phase}
 use Rattle.prices.proofs.PriceLaws.{no-bid, max-legal, permitted-legal, max-bid-legal}
@@ -35,8 +35,7 @@ use Rattle.engine.specs.rules.Pass.{moveDown, slideOnce, slideDown, move
 use Rattle.engine.specs.rules.Venue.{Venue, thePass, entering, effectOfEntry, effectOfCancel, effectOfDayEnd, effectOf, lastIdAfter}
 use Rattle.engine.specs.rules.Sound.{mostOrders, mostEvents, venueConditions, sound}
 use Rattle.engine.specs.rules.Refusals.{entryCodes, codesInRange}
-use Rattle.book.proofs.refinement.SoundBookLaws.{stampsDiffer-differ, differ-stampsDiffer}
-use Rattle.book.proofs.definitions.OrderConditionLaws.{FieldsSound, MayWork, MayRest, mayWork-reduced, mayRest-later, order-mayRest, mayRest-order}
+use Rattle.book.proofs.definitions.OrderConditionLaws.{FieldsSound, MayWork, MayRest, market-allowed, mayWork-reduced, mayRest-later, order-mayRest, mayRest-order}
 use Rattle.engine.proofs.refinement.RefusalLaws.{Allowed}
 use Rattle.engine.proofs.demand3.MarketLaws.{restricted-mark}
 
@@ -262,7 +261,7 @@ module _ (m : Market) (mark price : ℕ) where
   life-code life h = by-test (λ (x : ℕ). x ≤ 1) _ (λ t. omega arith) (λ t. h)
 
   -- what follows the bid is a short with limit 1
-  pub follows-short : T (followsBid m mark price) → (mark ≡ 2) × (limitOf mark price ≡ 1)
+  follows-short : T (followsBid m mark price) → (mark ≡ 2) × (limitOf mark price ≡ 1)
   unfolding followsBid limitOf
   follows-short t =
       let a = and-T (isMarket price) _ t in
@@ -270,11 +269,7 @@ module _ (m : Market) (mark price : ℕ) where
       (b, by-test (λ (x : ℕ). x ≡ 1) _ (λ y. by-test (λ (x : ℕ). x ≡ 1) _ (λ z. absurd (omega tests)) (λ z. refl)) (λ y. absurd (T-not (isMarket price) y (a .0))))
 
   follows-allowed : T (marketAllowed (followsBid m mark price) mark (limitOf mark price))
-  follows-allowed = go (followsBid m mark price) refl
-    where
-      go : (b : Bool) → followsBid m mark price ≡ b → T (marketAllowed b mark (limitOf mark price))
-      go false e = tt
-      go true e = let k = follows-short (subst T (sym e) tt) in T-and (eqb mark 2) _ (eq→T (k .0)) (eq→T (k .1))
+  follows-allowed = market-allowed (followsBid m mark price) mark (limitOf mark price) follows-short
 
 pub orderOf-sound : (v : Venue) (e : Entry) → Allowed v (entry e) → SoundVenue v → SoundWork (e .id) (v .lastStamp + 1) (orderOf (v .market) (v .lastStamp + 1) e) (v .orders)
 unfolding orderOf codesInRange

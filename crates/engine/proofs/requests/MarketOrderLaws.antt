@@ -1,24 +1,24 @@
 -- No. 1: how a market order works, that a resting market short stays while there is no bid, and what is as before. Assumes nothing.
-use Prim.Native.Nat.{ℕ, _≤_, _<_, max}
+use Prim.Native.Nat.{ℕ, _≤_, max}
 use native.Mathlib.Omega.{arith}
 use native.Mathlib.Decide.{ℕ-discrete}
 use mathlib.Core.Path.{_≡_, refl, sym, ap, _∙_, subst}
-use mathlib.Core.Bool.{true, false, not, _&&_}
+use mathlib.Core.Bool.{Bool, true, false, not, _&&_}
 use mathlib.Core.Logic.{_⊎_, inl, inr}
 use mathlib.Core.Option.{Option, none, some}
 use mathlib.Core.List.{List, [], _∷_, map, List·Memᴰ}
 use lib.Dec.{T, eqb, leb, ltb, leb→le, T-not}
 use lib.ListN.{length}
 use borrow.Author.Tests.{lt-ltb, lt-leb, eq-eqb, ne-eqb}
-use Rattle.numbers.specs.Tests.{pick}
-use Rattle.numbers.proofs.TestLaws.{by-test, pick-yes, pick-no, T-true, T-false, and-T, T-and, nand-T, and-last, and-false, eq→T, ne→T, tests}
+use Rattle.numbers.specs.Tests.{pick, All}
+use Rattle.numbers.proofs.TestLaws.{by-test, T-true, T-false, and-T, nand-T, and-last, and-false, tests, all-map}
 use Rattle.prices.specs.Prices.{highest, isBid, permitted}
 use Rattle.prices.proofs.PriceLaws.{legal-positive, permitted-none}
 use Rattle.book.specs.declared.Order.{Order}
 use Rattle.book.specs.rules.Orders.{isBuy, find, without}
 use Rattle.book.specs.rules.Matching.{matching}
-use Rattle.book.specs.rules.Words.{isBook, resting}
-use Rattle.book.proofs.definitions.OrderLaws.{idOf, Other, Distinct, insert-taken, taken-mem, without-mem, without-differ, find-mem, same-id, Found, find-found}
+use Rattle.book.specs.rules.Words.{isBook}
+use Rattle.book.proofs.definitions.OrderLaws.{idOf, Other, Distinct, taken-all, mem-taken, without-all, insert-taken, taken-mem, without-mem, without-differ, all-members, find-mem, same-id, Found, find-found}
 use Rattle.book.proofs.definitions.MatchingLaws.{matching-own-side}
 use Rattle.book.proofs.definitions.OrderConditionLaws.{MayRest, market-short}
 use Rattle.engine.specs.declared.Market.{Market}
@@ -30,94 +30,137 @@ use Rattle.engine.specs.declared.Remainder.the-variants.{Filled, Cancell
 use Rattle.engine.specs.declared.Move.{Move}
 use Rattle.engine.specs.declared.Move.the-variants.{Stay, Cancel, Reprice}
 use Rattle.engine.specs.rules.Market.{marketAfter, restricted, permittedNow}
-use Rattle.engine.specs.rules.Working.{isMarket, limitOf, followsBid, lifeOf, workingPrice, orderOf, remainder, afterRemainder, work}
+use Rattle.engine.specs.rules.Working.{limitOf, followsBid, lifeOf, workingPrice, orderOf, remainder, afterRemainder, work}
 use Rattle.engine.specs.rules.Pass.{maySlide, moveOf, afterMove, passOne, passOver}
-use Rattle.engine.specs.rules.Venue.{Venue, thePass, entering, effectOfEntry, effectOf}
-use Rattle.engine.specs.rules.Refusals.{refuseUnless, firstOf, refusalOfTerms, refusalOfKind, refusal}
+use Rattle.engine.specs.rules.Venue.{Venue, thePass, entering, effectOfEntry, effectOfCancel, effectOfDayEnd, effectOf}
+use Rattle.engine.specs.rules.Refusals.{refusalOfTerms, refusalOfKind, refusal}
 use Rattle.engine.specs.rules.Run.{Step, stepUnless, step}
 use Rattle.engine.specs.rules.Layout.{venueOf, stepIn}
-use Rattle.engine.specs.claims.MarketOrders.{Immediate, FollowsBid, MarketOrdersWork, isQuote, MarketShortsStay, MarketShortsStayInCalls, OthersSlideAsBefore, limitOrder, LimitEntriesAsBefore}
+use Rattle.engine.specs.steps.Steps.{moveInPass}
+use Rattle.engine.specs.claims.MarketOrders.{limitOrder, withTerms, MarketShort, Immediate, MarketOrdersWork, MarketFlagKept, runsPass, MarketShortsStay, MarketShortsStayInCalls, MovesAsBefore, EntriesAsBefore}
 use Rattle.engine.proofs.refinement.RefusalLaws.{Allowed, NotRefused, Unless, refusal-known}
 use Rattle.engine.proofs.demand3.MarketLaws.{restricted-mark, permittedNow-above}
-use Rattle.engine.proofs.demand3.SoundLaws.{SoundBook, book-distinct, book-order, passOne-sound, SoundVenue, sound-venue, follows-short, effectOf-sound}
+use Rattle.engine.proofs.demand3.SoundLaws.{SoundBook, book-distinct, book-order, passOne-sound, SoundVenue, sound-venue, effectOf-sound}
+use Rattle.engine.proofs.demand3.WorkingKeeps.{work-all}
 
 -- how a market order works
 
-module _ (m : Market) (mark price : ℕ) where
-  -- one that follows the bid
+module _ (m : Market) (stamp : ℕ) (e : Entry) (z : e.price ≡ 0) where
+  zero-price : eqb (e .price) 0 ≡ true
+  zero-price = eq-eqb (e .price) 0 z
 
-  follows-parts : T (followsBid m mark price) → T (restricted m mark) × (0 < m.bid)
-  unfolding followsBid
-  follows-parts t =
-      let a = and-T (restricted m mark) (ltb 0 (m .bid)) (and-T (isMarket price) _ t .1) in
-      (a .0, leb→le 1 (m .bid) (a .1))
+  -- no short is a buy
+  not-buy : T (restricted m (e .mark)) → eqb (e .mark) 0 ≡ false
+  not-buy r = ne-eqb (e .mark) 0 (λ b. omega (arith, restricted-mark m (e .mark) r))
 
-  follows-price : T (followsBid m mark price) → workingPrice m mark price ≡ permittedNow m
-  unfolding workingPrice
-  follows-price t =
-      pick-yes (restricted m mark) _ _ (follows-parts t .0) ∙ omega (arith, follows-short m mark price t .1, permittedNow-above m)
+  follows : T (restricted m (e .mark) && ltb 0 (m .bid)) → MarketShort m stamp e
+  unfolding orderOf workingPrice limitOf lifeOf followsBid pick
+  follows t =
+      let p = and-T (restricted m (e .mark)) (ltb 0 (m .bid)) t in
+      let r = T-true (restricted m (e .mark)) (p .0) in
+      let b = T-true (ltb 0 (m .bid)) (p .1) in
+      let above = permittedNow-above m in
+      let present = leb→le 1 (m .bid) (p .1) in
+      record {
+        order = rw (zero-price, r, b, not-buy (p .0));
+        price = rw (zero-price, r, not-buy (p .0)) (omega arith);
+        adjusted = rw (zero-price, r, not-buy (p .0)) (lt-ltb 1 (max 1 (permittedNow m)) (omega arith));
+      }
 
-  follows-life : (life : ℕ) → T (followsBid m mark price) → lifeOf m mark price life ≡ life
-  unfolding lifeOf pick
-  follows-life life t = rw (T-true (followsBid m mark price) t, and-false (isMarket price))
+  module _ (n : T (not (restricted m (e .mark) && ltb 0 (m .bid)))) where
+    market-limit : limitOf (e .mark) (e .price) ≡ pick (eqb (e .mark) 0) highest 1
+    unfolding limitOf pick
+    market-limit = rw zero-price
 
-  -- any other
-
-  module _ (z : T (isMarket price)) (n : T (not (followsBid m mark price))) where
-    market-limit : limitOf mark price ≡ pick (eqb mark 0) highest 1
-    unfolding limitOf
-    market-limit = pick-yes (isMarket price) _ _ z
-
-    no-bid : T (restricted m mark) → m.bid ≡ 0
-    unfolding followsBid
-    no-bid r = go (nand-T (isMarket price) (restricted m mark && ltb 0 (m .bid)) n)
+    -- the permitted price is 1 where there is no bid, which a sell works at in any case
+    restricted-price : T (restricted m (e .mark)) → max (pick (eqb (e .mark) 0) highest 1) (permittedNow m) ≡ pick (eqb (e .mark) 0) highest 1
+    unfolding permittedNow pick
+    restricted-price r = rw (not-buy r, ap permitted (none-there (nand-T (restricted m (e .mark)) (ltb 0 (m .bid)) n)), permitted-none)
       where
-        bid : T (not (restricted m mark)) ⊎ T (not (ltb 0 (m .bid))) → m.bid ≡ 0
-        bid (inl x) = absurd (T-not (restricted m mark) x r)
-        bid (inr x) = omega tests
+        none-there : T (not (restricted m (e .mark))) ⊎ T (not (ltb 0 (m .bid))) → m.bid ≡ 0
+        none-there (inl x) = absurd (T-not (restricted m (e .mark)) x r)
+        none-there (inr x) = omega tests
 
-        go : T (not (isMarket price)) ⊎ T (not (restricted m mark && ltb 0 (m .bid))) → m.bid ≡ 0
-        go (inl x) = absurd (T-not (isMarket price) x z)
-        go (inr x) = bid (nand-T (restricted m mark) (ltb 0 (m .bid)) x)
+    immediate-price : (orderOf m stamp e) .price ≡ pick (eqb (e .mark) 0) highest 1
+    unfolding orderOf workingPrice
+    immediate-price = rw market-limit (by-test (λ (x : ℕ). x ≡ pick (eqb (e .mark) 0) highest 1) (restricted m (e .mark)) restricted-price (λ r. refl))
 
-    -- the permitted price without a bid is 1, which a short works at in any case
-    immediate-price : workingPrice m mark price ≡ pick (eqb mark 0) highest 1
-    unfolding workingPrice permittedNow
-    immediate-price = by-test (λ (x : ℕ). x ≡ pick (eqb mark 0) highest 1) _ (λ r. restricted-price r) (λ r. market-limit)
-      where
-        restricted-price : T (restricted m mark) → max (limitOf mark price) (permittedNow m) ≡ pick (eqb mark 0) highest 1
-        restricted-price r =
-            let one : pick (eqb mark 0) highest 1 ≡ 1 = pick-no (eqb mark 0) highest 1 (ne→T mark 0 (λ e. omega (arith, restricted-mark m mark r))) in
-            omega (arith, market-limit, one, ap permitted (no-bid r) ∙ permitted-none)
+    immediate-order : orderOf m stamp e ≡ limitOrder m stamp (withTerms (pick (eqb (e .mark) 0) highest 1) 1 e) false
+    unfolding orderOf workingPrice limitOf lifeOf followsBid pick
+    immediate-order = simp (zero-price, T-false (restricted m (e .mark) && ltb 0 (m .bid)) n)
 
-    immediate-life : (life : ℕ) → lifeOf m mark price life ≡ 1
-    unfolding lifeOf
-    immediate-life life = pick-yes (isMarket price && not (followsBid m mark price)) 1 life (T-and (isMarket price) _ z n)
+    immediate : Immediate m stamp e
+    immediate = record { order = immediate-order; price = immediate-price }
 
 pub market-orders-work : MarketOrdersWork
-unfolding orderOf
-market-orders-work m stamp e z = (follows, immediate)
-  where
-    follows : T (followsBid m (e .mark) (e .price)) → FollowsBid m e (orderOf m stamp e)
-    follows t =
-        let limit = follows-short m (e .mark) (e .price) t .1 in
-        let price = follows-price m (e .mark) (e .price) t in
-        record {
-          limit = limit;
-          price = price;
-          adjusted = lt-ltb (limitOf (e .mark) (e .price)) (workingPrice m (e .mark) (e .price)) (omega (arith, limit, price, permittedNow-above m, follows-parts m (e .mark) (e .price) t .1));
-          life = follows-life m (e .mark) (e .price) (e .life) t;
-          said = T-true (followsBid m (e .mark) (e .price)) t;
-        }
+market-orders-work m stamp e z = (follows m stamp e z, immediate m stamp e z)
 
-    immediate : T (not (followsBid m (e .mark) (e .price))) → Immediate (orderOf m stamp e)
-    immediate n =
-        let t : T (isMarket (e .price)) = eq→T z in
-        record {
-          price = immediate-price m (e .mark) (e .price) t n;
-          life = immediate-life m (e .mark) (e .price) t n (e .life);
-          notSaid = T-false (followsBid m (e .mark) (e .price)) n;
-        }
+-- what each turn of the pass keeps, the pass keeps
+
+module _ (m : Market) (n : ℕ) (I : List Order → Type 0) where
+  abbrev KeptByTurn : Type 0
+  KeptByTurn = (x : Order) (os : List Order) (s : ℕ) → List·Memᴰ x os → SoundBook n s os → I os → I ((afterMove (moveInPass m x) x os s) .orders)
+
+  passOver-keeps : T (isBid (m .bid)) → KeptByTurn → (is : List ℕ) (os : List Order) (s : ℕ) → SoundBook n s os → I os → I ((passOver m is os s) .orders)
+  unfolding passOver passOne
+  passOver-keeps t k [] os s b h = h
+  passOver-keeps t k (i ∷ is) os s b h =
+      let f = find-found i os in
+      passOver-keeps t k is _ _ (passOne-sound m t n i (find i os) os s f b .0) (turn (find i os) f)
+    where
+      turn : (x : Option Order) → Found i os x → I ((passOne m x os s) .orders)
+      turn none f = h
+      turn (some x) f = k x os s (f .0) b h
+
+thePass-keeps : (m : Market) (v : Venue) (I : List Order → Type 0) → T (isBid (m .bid)) → SoundVenue v → KeptByTurn m (v .lastId) I → I (v .orders) → I ((thePass m v) .orders)
+unfolding thePass
+thePass-keeps m v I t g k h = passOver-keeps m (v .lastId) I t k (map idOf (v .orders)) (v .orders) (v .lastStamp) (g .book) h
+
+-- the flag is kept
+
+-- the orders with the id i have this flag
+abbrev Flagged : ℕ → Bool → Order → Type 0
+Flagged i flag x = x.id ≡ i → x.market ≡ flag
+
+module _ (i : ℕ) (flag : Bool) where
+  afterMove-flagged : {n : ℕ} (x : Order) (os : List Order) (s : ℕ) (y : Move) → List·Memᴰ x os → SoundBook n s os → All (Flagged i flag) os → All (Flagged i flag) ((afterMove y x os s) .orders)
+  unfolding afterMove
+  afterMove-flagged x os s Stay h b f = f
+  afterMove-flagged x os s Cancel h b f = without-all (Flagged i flag) (x .id) os f
+  afterMove-flagged x os s (Reprice p used) h b f =
+      let d : Distinct os = book-distinct b in
+      work-all (Flagged i flag) (λ z q k. k) _ (without (x .id) os) (without-differ idOf (x .id) os d) (taken-all (Flagged i flag) (mem-taken h d) f .0) (without-all (Flagged i flag) (x .id) os f)
+
+  thePass-flagged : (m : Market) (v : Venue) → T (isBid (m .bid)) → SoundVenue v → All (Flagged i flag) (v .orders) → All (Flagged i flag) ((thePass m v) .orders)
+  thePass-flagged m v t g f = thePass-keeps m v (All (Flagged i flag)) t g (λ x os s h b k. afterMove-flagged x os s (moveInPass m x) h b k) f
+
+  effectOf-flagged : (v : Venue) (e : Event) → i ≤ v.lastId → Allowed v e → SoundVenue v → All (Flagged i flag) (v .orders) → All (Flagged i flag) ((effectOf (marketAfter e (v .market)) v e) .orders)
+  unfolding effectOf entering effectOfEntry orderOf effectOfCancel effectOfDayEnd
+  effectOf-flagged v (entry e) l a g f =
+      work-all (Flagged i flag) (λ z q k. k) _ (v .orders) (book-distinct (g .book)) (λ z. absurd (omega (arith, a .place .newId))) f
+  effectOf-flagged v (cancel j) l a g f = without-all (Flagged i flag) j (v .orders) f
+  effectOf-flagged v (bid b) l a g f = thePass-flagged _ v a g f
+  effectOf-flagged v (tape p) l a g f = thePass-flagged _ v (g .market .bid) g f
+  effectOf-flagged v (dayEnd c) l a g f = tt
+
+-- what was found under an id rests, with that id
+found : {i : ℕ} {os : List Order} {o : Order} → find i os ≡ some o → List·Memᴰ o os × (o.id ≡ i)
+found {i} {os} e = subst (Found i os) e (find-found i os)
+
+stepUnless-flag : (x : Option ℕ) (v : Venue) (e : Event) (buffer i : ℕ) (o o′ : Order) → Unless x (NotRefused v e buffer) → find i (v .orders) ≡ some o → find i ((stepUnless x v e) .venue .orders) ≡ some o′ → o′.market ≡ o.market
+unfolding stepUnless
+stepUnless-flag (some k) v e buffer i o o′ u f f′ = let z : some o′ ≡ some o = sym f′ ∙ f in cc
+stepUnless-flag none v e buffer i o o′ u f f′ =
+    let g = sound-venue v (u .sound) in
+    let h = found f in
+    let h′ = found f′ in
+    let all : All (Flagged i (o .market)) (v .orders) = all-map (λ x k z. ap (λ (y : Order). y .market) (same-id k (h .0) (book-distinct (g .book)) (z ∙ sym (h .1)))) (v .orders) (all-members (v .orders)) in
+    let after = effectOf-flagged i (o .market) v e (omega (arith, h .1, book-order (g .book) (h .0) .works .id)) (u .allowed) g all in
+    taken-all (Flagged i (o .market)) (mem-taken (h′ .0) (book-distinct (effectOf-sound v e (u .allowed) g .0))) after .0 (h′ .1)
+
+pub market-flag-kept : MarketFlagKept
+unfolding step
+market-flag-kept v e buffer i o o′ f f′ = stepUnless-flag (refusal v e buffer) v e buffer i o o′ (refusal-known v e buffer) f f′
 
 -- a resting market short without a bid
 
@@ -130,7 +173,9 @@ afterRemainder-mem Rests w {os} h = taken-mem (insert-taken w os) h
 -- an order that works leaves those of its own side as they are
 work-own-side : (o w : Order) (os : List Order) → Distinct os → isBuy o ≡ isBuy w → List·Memᴰ o os → List·Memᴰ o ((work w os) .orders)
 unfolding work
-work-own-side o w os d e h = afterRemainder-mem (remainder ((matching w os) .left)) ((matching w os) .left) (matching-own-side o w os d e h)
+work-own-side o w os d e h =
+    let left = (matching w os) .left in
+    afterRemainder-mem (remainder left) left (matching-own-side o w os d e h)
 
 -- only a short is re-priced
 abbrev OfShort : Order → Move → Type 0
@@ -143,7 +188,15 @@ ofShort x e Stay = tt
 ofShort x e Cancel = tt
 ofShort x e (Reprice p used) = e
 
-module _ (m : Market) (noBid : m.bid ≡ 0) (t : T (isBid (m .bid))) (n : ℕ) (o : Order) (said : T (o .market)) where
+-- the turn of another order
+afterMove-mem : (o x : Order) (os : List Order) (s : ℕ) (y : Move) → Other (x .id) o → OfShort x y → o.mark ≡ 2 → Distinct os → List·Memᴰ o os → List·Memᴰ o ((afterMove y x os s) .orders)
+unfolding afterMove
+afterMove-mem o x os s Stay other e k d h = h
+afterMove-mem o x os s Cancel other e k d h = without-mem (x .id) other h
+afterMove-mem o x os s (Reprice p used) other e k d h =
+    work-own-side o _ (without (x .id) os) (without-differ idOf (x .id) os d) (ap (λ (j : ℕ). eqb j 0) (k ∙ sym e)) (without-mem (x .id) other h)
+
+module _ (m : Market) (noBid : m.bid ≡ 0) (n : ℕ) (o : Order) (said : T (o .market)) where
   -- its own turn
   stays : 1 ≤ o.price → moveOf m o ≡ Stay
   unfolding moveOf maySlide pick
@@ -152,57 +205,37 @@ module _ (m : Market) (noBid : m.bid ≡ 0) (t : T (isBid (m .bid))) (n : ℕ) (
       let g : eqb (m .bid) 0 ≡ true = eq-eqb (m .bid) 0 noBid in
       simp (T-true (o .market) said, f, g, and-false (o .adjusted))
 
-  -- the turn of another order
-  afterMove-mem : (x : Order) (os : List Order) (s : ℕ) (y : Move) → Other (x .id) o → OfShort x y → o.mark ≡ 2 → Distinct os → List·Memᴰ o os → List·Memᴰ o ((afterMove y x os s) .orders)
+  turn-stays : KeptByTurn m n (List·Memᴰ o)
   unfolding afterMove
-  afterMove-mem x os s Stay other e k d h = h
-  afterMove-mem x os s Cancel other e k d h = without-mem (x .id) other h
-  afterMove-mem x os s (Reprice p used) other e k d h =
-      work-own-side o _ (without (x .id) os) (without-differ idOf (x .id) os d) (ap (λ (j : ℕ). eqb j 0) (k ∙ sym e)) (without-mem (x .id) other h)
-
-  passOne-mem : (i : ℕ) (x : Option Order) (os : List Order) (s : ℕ) → Found i os x → SoundBook n s os → List·Memᴰ o os → List·Memᴰ o ((passOne m x os s) .orders)
-  unfolding passOne afterMove
-  passOne-mem i none os s f b h = h
-  passOne-mem i (some x) os s f b h = go (ℕ-discrete (o .id) (x .id))
+  turn-stays x os s e b h = go (ℕ-discrete (o .id) (x .id))
     where
       rests : MayRest n s o
       rests = book-order b h
 
-      own : o ≡ x → pick (restricted m (x .mark)) (moveOf m x) Stay ≡ Stay
-      own e = by-test (λ (y : Move). y ≡ Stay) _ (λ r. subst (λ (z : Order). moveOf m z ≡ Stay) e (stays (legal-positive (o .price) (rests .works .price)))) (λ r. refl)
+      own : o ≡ x → moveInPass m x ≡ Stay
+      own z = by-test (λ (y : Move). y ≡ Stay) _ (λ r. subst (λ (y : Order). moveOf m y ≡ Stay) z (stays (legal-positive (o .price) (rests .works .price)))) (λ r. refl)
 
-      go : Dec (o.id ≡ x.id) → List·Memᴰ o ((afterMove (pick (restricted m (x .mark)) (moveOf m x) Stay) x os s) .orders)
-      go (yes e) = subst (λ (y : Move). List·Memᴰ o ((afterMove y x os s) .orders)) (sym (own (same-id h (f .0) (book-distinct b) e))) h
-      go (no e) =
-          afterMove-mem x os s (pick (restricted m (x .mark)) (moveOf m x) Stay) e (by-test (OfShort x) _ (λ r. ofShort x (restricted-mark m (x .mark) r) (moveOf m x)) (λ r. tt)) (market-short o said (rests .works .fields) .0) (book-distinct b) h
+      go : Dec (o.id ≡ x.id) → List·Memᴰ o ((afterMove (moveInPass m x) x os s) .orders)
+      go (yes z) = subst (λ (y : Move). List·Memᴰ o ((afterMove y x os s) .orders)) (sym (own (same-id h e (book-distinct b) z))) h
+      go (no z) =
+          afterMove-mem o x os s (moveInPass m x) z (by-test (OfShort x) _ (λ r. ofShort x (restricted-mark m (x .mark) r) (moveOf m x)) (λ r. tt)) (market-short o said (rests .works .fields) .0) (book-distinct b) h
 
-  passOver-mem : (is : List ℕ) (os : List Order) (s : ℕ) → SoundBook n s os → List·Memᴰ o os → List·Memᴰ o ((passOver m is os s) .orders)
-  unfolding passOver
-  passOver-mem [] os s b h = h
-  passOver-mem (i ∷ is) os s b h =
-      let f = find-found i os in
-      passOver-mem is _ _ (passOne-sound m t n i (find i os) os s f b .0) (passOne-mem i (find i os) os s f b h)
-
-thePass-mem : (m : Market) (v : Venue) (o : Order) → m.bid ≡ 0 → T (isBid (m .bid)) → SoundVenue v → T (o .market) → List·Memᴰ o (v .orders) → List·Memᴰ o ((thePass m v) .orders)
-unfolding thePass
-thePass-mem m v o z t g said h = passOver-mem m z t (v .lastId) o said (map idOf (v .orders)) (v .orders) (v .lastStamp) (g .book) h
-
-effectOf-mem : (v : Venue) (e : Event) (o : Order) → T (isQuote e) → (marketAfter e (v .market)) .bid ≡ 0 → Allowed v e → SoundVenue v → T (o .market) → List·Memᴰ o (v .orders) → List·Memᴰ o ((effectOf (marketAfter e (v .market)) v e) .orders)
+effectOf-stays : (v : Venue) (e : Event) (o : Order) → T (runsPass e) → (marketAfter e (v .market)) .bid ≡ 0 → Allowed v e → SoundVenue v → T (o .market) → List·Memᴰ o (v .orders) → List·Memᴰ o ((effectOf (marketAfter e (v .market)) v e) .orders)
 unfolding effectOf
-effectOf-mem v (entry e) o q z a g said h = absurd q
-effectOf-mem v (cancel i) o q z a g said h = absurd q
-effectOf-mem v (bid b) o q z a g said h = thePass-mem _ v o z a g said h
-effectOf-mem v (tape p) o q z a g said h = thePass-mem _ v o z (g .market .bid) g said h
-effectOf-mem v (dayEnd c) o q z a g said h = absurd q
+effectOf-stays v (entry e) o q z a g said h = absurd q
+effectOf-stays v (cancel i) o q z a g said h = absurd q
+effectOf-stays v (bid b) o q z a g said h = thePass-keeps _ v (List·Memᴰ o) a g (turn-stays _ z (v .lastId) o said) h
+effectOf-stays v (tape p) o q z a g said h = thePass-keeps _ v (List·Memᴰ o) (g .market .bid) g (turn-stays _ z (v .lastId) o said) h
+effectOf-stays v (dayEnd c) o q z a g said h = absurd q
 
-stepUnless-stays : (x : Option ℕ) (v : Venue) (e : Event) (buffer : ℕ) → Unless x (NotRefused v e buffer) → T (isQuote e) → (marketAfter e (v .market)) .bid ≡ 0 → (i : ℕ) (o : Order) → find i (v .orders) ≡ some o → T (o .market) → find i ((stepUnless x v e) .venue .orders) ≡ some o
+stepUnless-stays : (x : Option ℕ) (v : Venue) (e : Event) (buffer : ℕ) → Unless x (NotRefused v e buffer) → T (runsPass e) → (marketAfter e (v .market)) .bid ≡ 0 → (i : ℕ) (o : Order) → find i (v .orders) ≡ some o → T (o .market) → find i ((stepUnless x v e) .venue .orders) ≡ some o
 unfolding stepUnless
 stepUnless-stays (some k) v e buffer u q z i o f said = f
 stepUnless-stays none v e buffer u q z i o f said =
     let g = sound-venue v (u .sound) in
-    let r = subst (Found i (v .orders)) f (find-found i (v .orders)) in
-    let l : List Order = (effectOf (marketAfter e (v .market)) v e) .orders in
-    subst (λ (j : ℕ). find j l ≡ some o) (r .1) (find-mem (effectOf-mem v e o q z (u .allowed) g said (r .0)) (book-distinct (effectOf-sound v e (u .allowed) g .0)))
+    let h = found f in
+    let after : List Order = (effectOf (marketAfter e (v .market)) v e) .orders in
+    subst (λ (j : ℕ). find j after ≡ some o) (h .1) (find-mem (effectOf-stays v e o q z (u .allowed) g said (h .0)) (book-distinct (effectOf-sound v e (u .allowed) g .0)))
 
 pub market-shorts-stay : MarketShortsStay
 unfolding step
@@ -215,12 +248,12 @@ market-shorts-stay-in-calls w e b answer w′ b′ a q z i o f said =
 
 -- as before
 
-pub others-slide-as-before : OthersSlideAsBefore
-unfolding maySlide
-others-slide-as-before m o e = rw e (and-last (o .adjusted))
+pub moves-as-before : MovesAsBefore
+unfolding moveOf maySlide
+moves-as-before m o t = rw (T-false (o .market && eqb (m .bid) 0) t, and-last (o .adjusted))
 
-pub limit-entries-as-before : LimitEntriesAsBefore
-unfolding refusalOfKind refusalOfTerms effectOfEntry orderOf workingPrice limitOf lifeOf followsBid pick
-limit-entries-as-before v e n =
+pub entries-as-before : EntriesAsBefore
+unfolding refusalOfKind refusalOfTerms entering effectOfEntry orderOf workingPrice limitOf lifeOf followsBid pick
+entries-as-before v e n =
     let z : eqb (e .price) 0 ≡ false = ne-eqb (e .price) 0 n in
     record { refusal = rw z; effect = rw z }

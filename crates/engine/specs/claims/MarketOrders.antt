@@ -1,8 +1,8 @@
 -- Document 02, No. 1, market orders: what is claimed of them, and what stays as document 01 has it. Assumes nothing.
 use Prim.Native.Nat.{ℕ, _+_, max}
 use mathlib.Core.Path.{_≡_}
-use mathlib.Core.Bool.{Bool, true, false, not}
-use mathlib.Core.List.{List}
+use mathlib.Core.Bool.{Bool, true, false, not, _&&_}
+use mathlib.Core.List.{List, _∷_}
 use mathlib.Core.Option.{Option, none, some}
 use lib.Dec.{T, leb, ltb, eqb}
 use Rattle.numbers.specs.Tests.{pick}
@@ -16,78 +16,32 @@ use Rattle.engine.specs.declared.Market.{Market}
 use Rattle.engine.specs.declared.Entry.{Entry}
 use Rattle.engine.specs.declared.Event.{Event}
 use Rattle.engine.specs.declared.Event.the-variants.{Entry as entry, Cancel as cancel, Bid as bid, Tape as tape, DayEnd as dayEnd}
+use Rattle.engine.specs.declared.Move.{Move}
+use Rattle.engine.specs.declared.Move.the-variants.{Stay, Cancel, Reprice}
 use Rattle.engine.specs.rules.Market.{marketAfter, restricted, permittedNow}
-use Rattle.engine.specs.rules.Working.{followsBid, orderOf}
-use Rattle.engine.specs.rules.Pass.{maySlide}
-use Rattle.engine.specs.rules.Venue.{Venue, entering, effectOfEntry}
+use Rattle.engine.specs.rules.Reports.{accepted}
+use Rattle.engine.specs.rules.Working.{Worked, orderOf, work}
+use Rattle.engine.specs.rules.Pass.{displayedClear, slideDown, moveOf, Effect}
+use Rattle.engine.specs.rules.Venue.{Venue, effectOfEntry}
 use Rattle.engine.specs.rules.Refusals.{refuseUnless, firstOf, refusalOfCodes, refusalOfPlace, refusalOfKind}
 use Rattle.engine.specs.rules.Run.{step}
 use Rattle.engine.specs.rules.Layout.{venueOf}
 use Rattle.engine.specs.claims.Calls.{Applied}
 
--- The order of an entry with price 0
+-- Before No. 1: what document 01 has in place of each part that No. 1 changes
 
--- "A buy works at 100,000,000 and any sell at 1, as immediate or cancel"
-pub record Immediate (o : Order) : Type 0 where
-  pub price : o.price ≡ pick (eqb (o .mark) 0) highest 1
-  pub life : o.life ≡ 1
-  pub notSaid : o.market ≡ false
-
--- "A restricted short with a bid present instead counts as limit 1 and slides, rests or is cancelled by 01's rules, its life included": it works
--- at the permitted price and is adjusted, and its record says that it is a market short
-pub record FollowsBid (m : Market) (e : Entry) (o : Order) : Type 0 where
-  pub limit : o.limit ≡ 1
-  pub price : o.price ≡ permittedNow m
-  pub adjusted : o.adjusted ≡ true
-  pub life : o.life ≡ e.life
-  pub said : o.market ≡ true
-
-abbrev pub MarketOrdersWork : Type 0
-MarketOrdersWork =
-    (m : Market) (stamp : ℕ) (e : Entry) → e.price ≡ 0 →
-    (T (followsBid m (e .mark) (e .price)) → FollowsBid m e (orderOf m stamp e)) × (T (not (followsBid m (e .mark) (e .price))) → Immediate (orderOf m stamp e))
-
--- A resting market short without a bid
-
--- the events that the pass runs after
-abbrev pub isQuote : Event → Bool
-isQuote (entry e) = false
-isQuote (cancel i) = false
-isQuote (bid b) = true
-isQuote (tape p) = true
-isQuote (dayEnd c) = false
-
--- "With no bid a resting market short stays where it is": after a bid or tape event that leaves no bid it rests as it did, in every field
-abbrev pub MarketShortsStay : Type 0
-MarketShortsStay =
-    (v : Venue) (e : Event) (buffer : ℕ) → T (isQuote e) → (marketAfter e (v .market)) .bid ≡ 0 →
-    (i : ℕ) (o : Order) → find i (v .orders) ≡ some o → T (o .market) → find i ((step v e buffer) .venue .orders) ≡ some o
-
--- the same of every call of apply, on any words
-abbrev pub MarketShortsStayInCalls : Type 0
-MarketShortsStayInCalls =
-    (w : List ℕ) (e : Event) (b : List ℕ) (answer : Outcome ℕ) (w′ b′ : List ℕ) → Applied w e b answer w′ b′ →
-    T (isQuote e) → (marketAfter e (venueOf w .market)) .bid ≡ 0 →
-    (i : ℕ) (o : Order) → find i (resting w) ≡ some o → T (o .market) → find i (resting w′) ≡ some o
-
--- As before
-
--- an order that isn't said to be a market short slides down where document 01 has it: "Otherwise, if adjusted"
-abbrev pub OthersSlideAsBefore : Type 0
-OthersSlideAsBefore = (m : Market) (o : Order) → o.market ≡ false → maySlide m o ≡ o.adjusted
-
--- document 01's terms of an entry: "3 price not legal; 4 shares"
-abbrev pub termsOfLimit : ℕ → ℕ → Option ℕ
-termsOfLimit price shares =
+-- the terms of an entry: "3 price not legal; 4 shares"
+abbrev pub termsBefore : ℕ → ℕ → Option ℕ
+termsBefore price shares =
     refuseUnless (legal price) 3
     (refuseUnless (leb 1 shares) 4
     (refuseUnless (leb shares mostShares) 4
     none))
 
--- document 01's order of an entry: "works at its limit; a restricted one at the larger of limit and permitted price, adjusted if that is above the
--- limit"
-abbrev pub limitOrder : Market → ℕ → Entry → Order
-limitOrder m stamp e =
+-- the order of an entry: "works at its limit; a restricted one at the larger of limit and permitted price, adjusted if that is above the limit"; the
+-- last number is the flag that No. 1 adds to its record
+abbrev pub limitOrder : Market → ℕ → Entry → Bool → Order
+limitOrder m stamp e market =
     let p : ℕ = pick (restricted m (e .mark)) (max (e .price) (permittedNow m)) (e .price) in
     record {
       id = e.id;
@@ -103,13 +57,87 @@ limitOrder m stamp e =
       adjusted = ltb (e .price) p;
       used = false;
       clear = ltb (m .bid) p;
-      market = false;
+      market = market;
     }
 
--- an entry with a price other than 0 is refused, and does what it does, by document 01's terms and order
-pub record AsBefore (v : Venue) (e : Entry) : Type 0 where
-  pub refusal : refusalOfKind v (entry e) ≡ firstOf (termsOfLimit (e .price) (e .shares)) (firstOf (refusalOfCodes e) (refusalOfPlace v (e .id)))
-  pub effect : effectOfEntry (v .market) v e ≡ entering (limitOrder (v .market) (v .lastStamp + 1) e) (v .orders)
+-- what an accepted entry does: "1 accepted: id, stamp, working price", and it works
+abbrev pub effectBefore : Market → Venue → Entry → Effect
+effectBefore m v e =
+    let s : ℕ = v.lastStamp + 1 in
+    let o : Order = limitOrder m s e false in
+    let w : Worked = work o (v .orders) in
+    record { reports = accepted (e .id) s (o .price) ∷ w.reports; orders = w.orders; stamp = s }
 
-abbrev pub LimitEntriesAsBefore : Type 0
-LimitEntriesAsBefore = (v : Venue) (e : Entry) → (e.price ≡ 0 → ⊥) → AsBefore v e
+-- where a restricted order goes: "Otherwise, if adjusted", market short or not
+abbrev pub moveBefore : Market → Order → Move
+moveBefore m o =
+    pick (leb (o .price) (m .bid) && not (displayedClear o))
+    (pick (eqb (o .slide) 3) Cancel (Reprice (permittedNow m) (o .used)))
+    (pick (o .adjusted) (slideDown m o) Stay)
+
+-- The order of an entry with price 0
+
+-- the entry with another price and life
+abbrev pub withTerms : ℕ → ℕ → Entry → Entry
+withTerms price life e = record { id = e.id; mark = e.mark; price = price; shares = e.shares; show = e.show; life = life; slide = e.slide }
+
+-- "A restricted short with a bid present instead counts as limit 1 and slides, rests or is cancelled by 01's rules, its life included .. the order
+-- record says that it is one"; it works at the permitted price and is adjusted
+pub record MarketShort (m : Market) (stamp : ℕ) (e : Entry) : Type 0 where
+  pub order : orderOf m stamp e ≡ limitOrder m stamp (withTerms 1 (e .life) e) true
+  pub price : (orderOf m stamp e) .price ≡ permittedNow m
+  pub adjusted : (orderOf m stamp e) .adjusted ≡ true
+
+-- "A buy works at 100,000,000 and any sell at 1, as immediate or cancel"
+pub record Immediate (m : Market) (stamp : ℕ) (e : Entry) : Type 0 where
+  pub order : orderOf m stamp e ≡ limitOrder m stamp (withTerms (pick (eqb (e .mark) 0) highest 1) 1 e) false
+  pub price : (orderOf m stamp e) .price ≡ pick (eqb (e .mark) 0) highest 1
+
+abbrev pub MarketOrdersWork : Type 0
+MarketOrdersWork =
+    (m : Market) (stamp : ℕ) (e : Entry) → e.price ≡ 0 →
+    let t : Bool = restricted m (e .mark) && ltb 0 (m .bid) in
+    (T t → MarketShort m stamp e) × (T (not t) → Immediate m stamp e)
+
+-- A resting market short
+
+-- its record says that it is one as long as it rests
+abbrev pub MarketFlagKept : Type 0
+MarketFlagKept =
+    (v : Venue) (e : Event) (buffer i : ℕ) (o o′ : Order) →
+    find i (v .orders) ≡ some o → find i ((step v e buffer) .venue .orders) ≡ some o′ → o′.market ≡ o.market
+
+-- "The pass runs after each accepted bid or tape event"
+abbrev pub runsPass : Event → Bool
+runsPass (entry e) = false
+runsPass (cancel i) = false
+runsPass (bid b) = true
+runsPass (tape p) = true
+runsPass (dayEnd c) = false
+
+-- "With no bid a resting market short stays where it is": after a bid or tape event that leaves no bid it rests as it did, in every field
+abbrev pub MarketShortsStay : Type 0
+MarketShortsStay =
+    (v : Venue) (e : Event) (buffer : ℕ) → T (runsPass e) → (marketAfter e (v .market)) .bid ≡ 0 →
+    (i : ℕ) (o : Order) → find i (v .orders) ≡ some o → T (o .market) → find i ((step v e buffer) .venue .orders) ≡ some o
+
+-- the same of every call of apply, on any words
+abbrev pub MarketShortsStayInCalls : Type 0
+MarketShortsStayInCalls =
+    (w : List ℕ) (e : Event) (b : List ℕ) (answer : Outcome ℕ) (w′ b′ : List ℕ) → Applied w e b answer w′ b′ →
+    T (runsPass e) → (marketAfter e (venueOf w .market)) .bid ≡ 0 →
+    (i : ℕ) (o : Order) → find i (resting w) ≡ some o → T (o .market) → find i (resting w′) ≡ some o
+
+-- As before
+
+-- every order moves as before, but a market short without a bid
+abbrev pub MovesAsBefore : Type 0
+MovesAsBefore = (m : Market) (o : Order) → T (not (o .market && eqb (m .bid) 0)) → moveOf m o ≡ moveBefore m o
+
+-- an entry with a price other than 0 is refused as before, and reports and leaves what it did before
+pub record EntryAsBefore (v : Venue) (e : Entry) : Type 0 where
+  pub refusal : refusalOfKind v (entry e) ≡ firstOf (termsBefore (e .price) (e .shares)) (firstOf (refusalOfCodes e) (refusalOfPlace v (e .id)))
+  pub effect : effectOfEntry (v .market) v e ≡ effectBefore (v .market) v e
+
+abbrev pub EntriesAsBefore : Type 0
+EntriesAsBefore = (v : Venue) (e : Entry) → (e.price ≡ 0 → ⊥) → EntryAsBefore v e

@@ -1,5 +1,5 @@
--- The pass: document 01, "The pass runs after each accepted bid or tape event, over the orders then resting, lowest id first."
--- Assumes nothing.
+-- The pass: document 01, "The pass runs after each accepted bid or tape event, over the orders then resting, lowest id first.", and document 02,
+-- No. 1. Assumes nothing.
 use Prim.Native.Nat.{ℕ, _+_, max}
 use mathlib.Core.Bool.{Bool, true, not, _&&_}
 use mathlib.Core.List.{List, [], _∷_, _++_}

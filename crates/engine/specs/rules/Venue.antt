@@ -34,7 +34,7 @@ opening close = pick (legal close) (gives (opened close)) (refuses 3)
 
 -- What an accepted event reports, and the book after it; m is the market after the event
 
--- "1 accepted: id, stamp, working price", and the order works
+-- "1 accepted: id, stamp, working price", and the order works; No. 1, of a market order: "Its accepted report gives the working price"
 unfoldable pub entering : Order → List Order → Effect
 entering o os =
     let w : Worked = work o os in

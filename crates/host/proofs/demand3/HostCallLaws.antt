@@ -16,9 +16,10 @@ use Rattle.engine.specs.rules.Layout.{venueOf}
 use Rattle.engine.specs.claims.Calls.{AppliedCall, Chain, none as noEvents, more as moreEvents, LongEnough, SameForBoth}
 use Rattle.engine.proofs.bytes.RecordLaws.{record-unique}
 use Rattle.engine.proofs.demand3.CallLaws.{demand3-from, no-16-from, both}
-use Rattle.host.specs.rules.Host.{hostAnswer}
-use Rattle.host.specs.claims.Calls.{AnswerTold, RecordApplied}
-use Rattle.host.specs.claims.HostCalls.{ApplyCall, ApplyChain, none, more, EventCall, withEvent, eventCalls, appliedCall, AnswersTold, UnreadableRefused, EventsOfCalls, Demand3OfHosts, NoHostGets16, EqualHostReports}
+use Rattle.engine.proofs.requests.MarketOrderLaws.{market-shorts-stay-in-calls}
+use Rattle.host.specs.rules.Host.{hostAnswer, outcomeOf}
+use Rattle.host.specs.claims.Calls.{AnswerTold, EventApplied, RecordApplied}
+use Rattle.host.specs.claims.HostCalls.{ApplyCall, ApplyChain, none, more, EventCall, withEvent, eventCalls, appliedCall, AnswersTold, UnreadableRefused, EventsOfCalls, MarketShortsStayForHosts, Demand3OfHosts, NoHostGets16, EqualHostReports}
 use Rattle.host.proofs.refinement.HostLaws.{outcome-told, answer-told, opened-fresh}
 
 -- the numbers
@@ -50,6 +51,11 @@ events {w′ = w′} (more {w = w} {w₁ = w₁} {c = c} {cs = cs} h a r) = by-r
 
 pub events-of-calls : EventsOfCalls
 events-of-calls w cs w′ c = events c
+
+pub market-shorts-stay-for-hosts : MarketShortsStayForHosts
+market-shorts-stay-for-hosts w bytes b answer w′ b′ a r e =
+    let x : EventApplied w (r .value) b answer w′ b′ = rw e at a in
+    market-shorts-stay-in-calls w (r .value) b (outcomeOf answer) w′ b′ (x .applied)
 
 pub demand3-of-hosts : Demand3OfHosts
 demand3-of-hosts w close w₀ h cs w′ c =

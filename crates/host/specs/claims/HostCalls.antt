@@ -2,15 +2,22 @@
 use Prim.Native.Nat.{ℕ, _≤_}
 use mathlib.Core.Path.{_≡_}
 use mathlib.Core.List.{List, [], _∷_, map}
+use mathlib.Core.Option.{some}
+use lib.Dec.{T}
 use lib.ListN.{length}
 use Rattle.numbers.specs.Tests.{All}
 use Rattle.numbers.specs.Answers.{Outcome, gives, refuses, Read}
 use Rattle.numbers.specs.SevenBit.{IsByte}
+use Rattle.book.specs.declared.Order.{Order}
+use Rattle.book.specs.rules.Orders.{find}
+use Rattle.book.specs.rules.Words.{resting}
 use Rattle.engine.specs.declared.Event.{Event}
+use Rattle.engine.specs.rules.Market.{marketAfter}
 use Rattle.engine.specs.rules.Refusals.{leastBuffer}
 use Rattle.engine.specs.rules.Records.{recordAt}
 use Rattle.engine.specs.rules.Layout.{venueOf}
 use Rattle.engine.specs.claims.Calls.{AppliedCall, Chain, LawfulCalls, reportsGot}
+use Rattle.engine.specs.claims.MarketOrders.{runsPass}
 use Rattle.host.specs.rules.Host.{hostAnswer, outcomeOf}
 use Rattle.host.specs.claims.Calls.{HostOpened, AnswerTold, RecordRefused, HostApplied}
 
@@ -62,6 +69,14 @@ UnreadableRefused =
 -- a call whose record reads as an event is a call of apply, and any other leaves the words as they were
 abbrev pub EventsOfCalls : Type 0
 EventsOfCalls = (w : List ℕ) (cs : List ApplyCall) (w′ : List ℕ) → ApplyChain w cs w′ → Chain w (map appliedCall (eventCalls cs)) w′
+
+-- No. 1, "With no bid a resting market short stays where it is": a call whose record reads as a bid or tape event that leaves no bid leaves it as it
+-- was, in every field
+abbrev pub MarketShortsStayForHosts : Type 0
+MarketShortsStayForHosts =
+    (w bytes b : List ℕ) (answer : ℕ) (w′ b′ : List ℕ) → HostApplied w bytes b answer w′ b′ →
+    (r : Read Event) → recordAt bytes 0 ≡ gives r → T (runsPass (r .value)) → (marketAfter (r .value) (venueOf w .market)) .bid ≡ 0 →
+    (i : ℕ) (o : Order) → find i (resting w) ≡ some o → T (o .market) → find i (resting w′) ≡ some o
 
 -- From the words that venue_open leaves with the answer 0; the run may be longer than a venue
 

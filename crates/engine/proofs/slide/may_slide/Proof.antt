@@ -1,7 +1,5 @@
 -- By the flags, and the bid. Assumes nothing.
-use borrow.Author.Tests.{eq-eqb, ne-eqb}
 use Rattle.engine.specs.rules.Pass.{maySlide}
-use borrow.Author.Needs.{needs}
 use Rattle.engine.proofs.slide.may_slide.Statement.{statement}
 use Rattle.engine.proofs.slide.may_slide.Tie as tie
 

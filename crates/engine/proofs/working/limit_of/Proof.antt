@@ -2,7 +2,6 @@
 use borrow.Author.Tests.{eq-eqb, ne-eqb}
 use Rattle.numbers.specs.Tests.{pick}
 use Rattle.engine.specs.rules.Working.{limitOf}
-use borrow.Author.Needs.{needs}
 use Rattle.engine.proofs.working.limit_of.Statement.{statement}
 use Rattle.engine.proofs.working.limit_of.Tie as tie
 
