@@ -1,4 +1,4 @@
--- The rules of documents 01 and 02 on orders, in its order, and last what a run of words means as a book.
+-- The rules of documents 01 and 02 on orders, in their order, and last what a run of words means as a book.
 pub mod Orders
 pub mod Matching
 pub mod Sound

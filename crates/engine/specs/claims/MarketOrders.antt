@@ -38,8 +38,8 @@ termsBefore price shares =
     (refuseUnless (leb shares mostShares) 4
     none))
 
--- the order of an entry: "works at its limit; a restricted one at the larger of limit and permitted price, adjusted if that is above the limit"; the
--- last number is the flag that No. 1 adds to its record
+-- the order of an entry: "works at its limit; a restricted one at the larger of limit and permitted price, adjusted if that is above the limit";
+-- market is the flag that No. 1 adds to its record
 abbrev pub limitOrder : Market → ℕ → Entry → Bool → Order
 limitOrder m stamp e market =
     let p : ℕ = pick (restricted m (e .mark)) (max (e .price) (permittedNow m)) (e .price) in
