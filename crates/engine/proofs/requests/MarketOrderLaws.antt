@@ -101,20 +101,20 @@ module _ (m : Market) (n : ℕ) (I : List Order → Type 0) where
   abbrev KeptByTurn : Type 0
   KeptByTurn = (x : Order) (os : List Order) (s : ℕ) → List·Memᴰ x os → SoundBook n s os → I os → I ((afterMove (moveInPass m x) x os s) .orders)
 
-  passOver-keeps : T (isBid (m .bid)) → KeptByTurn → (is : List ℕ) (os : List Order) (s : ℕ) → SoundBook n s os → I os → I ((passOver m is os s) .orders)
+  passOver-turns : T (isBid (m .bid)) → KeptByTurn → (is : List ℕ) (os : List Order) (s : ℕ) → SoundBook n s os → I os → I ((passOver m is os s) .orders)
   unfolding passOver passOne
-  passOver-keeps t k [] os s b h = h
-  passOver-keeps t k (i ∷ is) os s b h =
+  passOver-turns t k [] os s b h = h
+  passOver-turns t k (i ∷ is) os s b h =
       let f = find-found i os in
-      passOver-keeps t k is _ _ (passOne-sound m t n i (find i os) os s f b .0) (turn (find i os) f)
+      passOver-turns t k is _ _ (passOne-sound m t n i (find i os) os s f b .0) (turn (find i os) f)
     where
       turn : (x : Option Order) → Found i os x → I ((passOne m x os s) .orders)
       turn none f = h
       turn (some x) f = k x os s (f .0) b h
 
-thePass-keeps : (m : Market) (v : Venue) (I : List Order → Type 0) → T (isBid (m .bid)) → SoundVenue v → KeptByTurn m (v .lastId) I → I (v .orders) → I ((thePass m v) .orders)
+thePass-turns : (m : Market) (v : Venue) (I : List Order → Type 0) → T (isBid (m .bid)) → SoundVenue v → KeptByTurn m (v .lastId) I → I (v .orders) → I ((thePass m v) .orders)
 unfolding thePass
-thePass-keeps m v I t g k h = passOver-keeps m (v .lastId) I t k (map idOf (v .orders)) (v .orders) (v .lastStamp) (g .book) h
+thePass-turns m v I t g k h = passOver-turns m (v .lastId) I t k (map idOf (v .orders)) (v .orders) (v .lastStamp) (g .book) h
 
 -- the flag is kept
 
@@ -132,7 +132,7 @@ module _ (i : ℕ) (flag : Bool) where
       work-all (Flagged i flag) (λ z q k. k) _ (without (x .id) os) (without-differ idOf (x .id) os d) (taken-all (Flagged i flag) (mem-taken h d) f .0) (without-all (Flagged i flag) (x .id) os f)
 
   thePass-flagged : (m : Market) (v : Venue) → T (isBid (m .bid)) → SoundVenue v → All (Flagged i flag) (v .orders) → All (Flagged i flag) ((thePass m v) .orders)
-  thePass-flagged m v t g f = thePass-keeps m v (All (Flagged i flag)) t g (λ x os s h b k. afterMove-flagged x os s (moveInPass m x) h b k) f
+  thePass-flagged m v t g f = thePass-turns m v (All (Flagged i flag)) t g (λ x os s h b k. afterMove-flagged x os s (moveInPass m x) h b k) f
 
   effectOf-flagged : (v : Venue) (e : Event) → i ≤ v.lastId → Allowed v e → SoundVenue v → All (Flagged i flag) (v .orders) → All (Flagged i flag) ((effectOf (marketAfter e (v .market)) v e) .orders)
   unfolding effectOf entering effectOfEntry orderOf effectOfCancel effectOfDayEnd
@@ -224,8 +224,8 @@ effectOf-stays : (v : Venue) (e : Event) (o : Order) → T (runsPass e) → (mar
 unfolding effectOf
 effectOf-stays v (entry e) o q z a g said h = absurd q
 effectOf-stays v (cancel i) o q z a g said h = absurd q
-effectOf-stays v (bid b) o q z a g said h = thePass-keeps _ v (List·Memᴰ o) a g (turn-stays _ z (v .lastId) o said) h
-effectOf-stays v (tape p) o q z a g said h = thePass-keeps _ v (List·Memᴰ o) (g .market .bid) g (turn-stays _ z (v .lastId) o said) h
+effectOf-stays v (bid b) o q z a g said h = thePass-turns _ v (List·Memᴰ o) a g (turn-stays _ z (v .lastId) o said) h
+effectOf-stays v (tape p) o q z a g said h = thePass-turns _ v (List·Memᴰ o) (g .market .bid) g (turn-stays _ z (v .lastId) o said) h
 effectOf-stays v (dayEnd c) o q z a g said h = absurd q
 
 stepUnless-stays : (x : Option ℕ) (v : Venue) (e : Event) (buffer : ℕ) → Unless x (NotRefused v e buffer) → T (runsPass e) → (marketAfter e (v .market)) .bid ≡ 0 → (i : ℕ) (o : Order) → find i (v .orders) ≡ some o → T (o .market) → find i ((stepUnless x v e) .venue .orders) ≡ some o
