@@ -3,30 +3,42 @@ use crate::PermittedAnswer;
 use crate::Price;
 use crate::PriceAnswer;
 ghost use mathlib.Core.Path.{_≡_};
-ghost use Prim.Native.Nat.{_≤_};
-ghost use lib.Dec.{leb, ltb};
-ghost use Rattle.prices.specs.Prices.{highest, dollarBorder, highestBid, legal, isBid, permitted, priceOf, permittedOf, outcomeOfPrice, outcomeOfPermitted};
+ghost use Prim.Native.Nat.{_*_, _%_, _≤_};
+ghost use lib.Dec.{T, leb, ltb, eqb};
+ghost use Rattle.prices.specs.Prices.{highest, dollarBorder, isStep, highestBid, legal, isBid, permitted, priceOf, permittedOf, outcomeOfPrice, outcomeOfPermitted};
 
 impl Price {
-    // The highest price, and the price of one dollar, from which on prices are whole cents.
+    // The highest price, and the price of one dollar, from which on prices are multiples of the step.
     pub const HIGHEST: u32 = 100_000_000;
 
     pub const DOLLAR_BORDER: u32 = 10_000;
 
-    pub fn new(value: u32) -> PriceAnswer
-        ensures { λ r. ⌜ outcomeOfPrice r ≡ priceOf value ⌝ }
+    pub fn new(step: u32, value: u32) -> PriceAnswer
+        ensures { λ r. ⌜ outcomeOfPrice r ≡ priceOf step value ⌝ }
     {
-        if is_legal(value) {
+        if !is_step(step) {
+            return PriceAnswer::NotStep;
+        }
+        if is_legal(step, value) {
             return PriceAnswer::Legal(Price { value });
         }
         PriceAnswer::NotLegal
     }
 }
 
-// The step of prices from the dollar border up.
-const STEP: u32 = 100;
+// The steps of prices from the dollar border up.
+pub const CENT: u32 = 100;
 
-const HIGHEST_BID: u32 = 99_999_900;
+pub const HALF_CENT: u32 = 50;
+
+pub fn is_step(step: u32) -> bool
+    ensures { λ r. ⌜ r ≡ isStep step ⌝ }
+{
+    if step == HALF_CENT {
+        return true;
+    }
+    step == CENT
+}
 
 // The tests of the bounds: each contract holds for no other number than its bound.
 fn up_to_highest(value: u32) -> bool
@@ -35,10 +47,11 @@ fn up_to_highest(value: u32) -> bool
     value <= Price::HIGHEST
 }
 
-fn up_to_highest_bid(value: u32) -> bool
-    ensures { λ r. ⌜ r ≡ leb value highestBid ⌝ }
+fn up_to_highest_bid(step: u32, value: u32) -> bool
+    requires { ⌜ T (isStep step) ⌝ }
+    ensures { λ r. ⌜ r ≡ leb value (highestBid step) ⌝ }
 {
-    value <= HIGHEST_BID
+    value <= Price::HIGHEST - step
 }
 
 fn below_border(value: u32) -> bool
@@ -47,32 +60,56 @@ fn below_border(value: u32) -> bool
     value < Price::DOLLAR_BORDER
 }
 
-pub fn is_legal(value: u32) -> bool
-    ensures { λ r. ⌜ r ≡ legal value ⌝ }
+fn steps_in_a_cent(step: u32) -> u32
+    requires { ⌜ T (isStep step) ⌝ }
+    ensures { λ r. ⌜ (r * step ≡ 100) × (r ≤ 2) ⌝ }
+{
+    if step == CENT {
+        return 1;
+    }
+    2
+}
+
+// Whether a price is a multiple of the step: so many times the price is then a multiple of a cent. The remainder is by a constant, since one by the
+// step is a division in each test of the record walk, and so is a choice between two remainders.
+fn is_multiple(step: u32, value: u32) -> bool
+    requires { ⌜ T (isStep step) × (value ≤ highest) ⌝ }
+    ensures { λ r. ⌜ r ≡ eqb (value % step) 0 ⌝ }
+{
+    value * steps_in_a_cent(step) % CENT == 0
+}
+
+pub fn is_legal(step: u32, value: u32) -> bool
+    requires { ⌜ T (isStep step) ⌝ }
+    ensures { λ r. ⌜ r ≡ legal step value ⌝ }
 {
     if !up_to_highest(value) {
         return false;
     }
-    if value % STEP == 0 {
+    if is_multiple(step, value) {
         return value >= 1;
     }
     below_border(value)
 }
 
-// No bid, 0, is a whole number of steps too.
-pub fn is_bid(value: u32) -> bool
-    ensures { λ r. ⌜ r ≡ isBid value ⌝ }
+// No bid, 0, is a multiple of the step too.
+pub fn is_bid(step: u32, value: u32) -> bool
+    requires { ⌜ T (isStep step) ⌝ }
+    ensures { λ r. ⌜ r ≡ isBid step value ⌝ }
 {
-    if value % STEP == 0 {
-        return up_to_highest_bid(value);
+    if !up_to_highest_bid(step, value) {
+        return false;
+    }
+    if is_multiple(step, value) {
+        return true;
     }
     below_border(value)
 }
 
 // The lowest legal price above a bid.
-fn price_above(bid: u32) -> u32
-    requires { ⌜ bid ≤ highestBid ⌝ }
-    ensures { λ r. ⌜ r ≡ permitted bid ⌝ }
+pub fn price_above(step: u32, bid: u32) -> u32
+    requires { ⌜ bid ≤ highestBid step ⌝ }
+    ensures { λ r. ⌜ r ≡ permitted step bid ⌝ }
 {
     if bid == 0 {
         return 1;
@@ -80,18 +117,22 @@ fn price_above(bid: u32) -> u32
     if below_border(bid) {
         return bid + 1;
     }
-    bid + STEP
+    bid + step
 }
 
 // The permitted price of a bid: a number up to the highest bid is a bid just where the price above it is legal.
-pub fn permitted_price(bid: u32) -> PermittedAnswer
-    ensures { λ r. ⌜ outcomeOfPermitted r ≡ permittedOf bid ⌝ }
+pub fn permitted_price(step: u32, bid: u32) -> PermittedAnswer
+    ensures { λ r. ⌜ outcomeOfPermitted r ≡ permittedOf step bid ⌝ }
 {
-    if !up_to_highest_bid(bid) {
+    if !is_step(step) {
+        return PermittedAnswer::NotStep;
+    }
+    if !up_to_highest_bid(step, bid) {
         return PermittedAnswer::NotBid;
     }
-    match Price::new(price_above(bid)) {
+    match Price::new(step, price_above(step, bid)) {
         PriceAnswer::Legal(price) => PermittedAnswer::Permitted(price),
         PriceAnswer::NotLegal => PermittedAnswer::NotBid,
+        PriceAnswer::NotStep => PermittedAnswer::NotStep,
     }
 }

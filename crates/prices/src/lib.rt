@@ -7,16 +7,18 @@ pub struct Price {
     pub value: u32,
 }
 
-// A number taken as a price: the price, or that it isn't legal.
+// A number taken as a price: the price, that it isn't legal, or that the step is neither 50 nor 100.
 pub enum PriceAnswer {
     Legal(Price),
     NotLegal,
+    NotStep,
 }
 
-// The permitted price of a number taken as a bid, or that it isn't a bid.
+// The permitted price of a number taken as a bid, that it isn't a bid, or that the step is neither 50 nor 100.
 pub enum PermittedAnswer {
     Permitted(Price),
     NotBid,
+    NotStep,
 }
 
 // A host's own record of a close and the phase of the restriction under it.
@@ -26,8 +28,9 @@ pub struct Watch {
     pub phase: u32,
 }
 
-// What a watch answers to a tape price: the record is up to date, or the price isn't legal.
+// What a watch answers to a tape price: the record is up to date, the price isn't legal, or the step is neither 50 nor 100.
 pub enum WatchAnswer {
     Updated,
     NotLegal,
+    NotStep,
 }

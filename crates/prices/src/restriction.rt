@@ -42,28 +42,33 @@ pub fn restriction_on(phase: u32) -> bool
     phase == 2
 }
 
-fn watched_phase(close: u32, phase: u32, price: u32) -> u32
-    ensures { λ r. ⌜ r ≡ watchedPhase close phase price ⌝ }
+fn watched_phase(step: u32, close: u32, phase: u32, price: u32) -> u32
+    ensures { λ r. ⌜ r ≡ watchedPhase step close phase price ⌝ }
 {
-    if increments::is_legal(price) {
-        return phase_after_tape(close, phase, price);
+    if increments::is_step(step) {
+        if increments::is_legal(step, price) {
+            return phase_after_tape(close, phase, price);
+        }
     }
     phase
 }
 
-fn watch_answer(price: u32) -> WatchAnswer
-    ensures { λ r. ⌜ outcomeOfWatch r ≡ watchOutcome price ⌝ }
+fn watch_answer(step: u32, price: u32) -> WatchAnswer
+    ensures { λ r. ⌜ outcomeOfWatch r ≡ watchOutcome step price ⌝ }
 {
-    if increments::is_legal(price) {
+    if !increments::is_step(step) {
+        return WatchAnswer::NotStep;
+    }
+    if increments::is_legal(step, price) {
         return WatchAnswer::Updated;
     }
     WatchAnswer::NotLegal
 }
 
-// A tape price on the host's own record: any close, any phase, any price.
-pub fn watch(watch: &mut Watch, price: u32) -> WatchAnswer
-    ensures { λ r. ⌜ (outcomeOfWatch r ≡ watchOutcome price) × (now (watch .exit) ≡ watched (now (watch .entry)) price) ⌝ }
+// A tape price at a step on the host's own record: any close, any phase, any step, any price.
+pub fn watch(watch: &mut Watch, step: u32, price: u32) -> WatchAnswer
+    ensures { λ r. ⌜ (outcomeOfWatch r ≡ watchOutcome step price) × (now (watch .exit) ≡ watched step (now (watch .entry)) price) ⌝ }
 {
-    watch.phase = watched_phase(watch.close, watch.phase, price);
-    watch_answer(price)
+    watch.phase = watched_phase(step, watch.close, watch.phase, price);
+    watch_answer(step, price)
 }

@@ -1,0 +1,14 @@
+-- A step that isn't a cent is half of one. Assumes nothing.
+use native.Mathlib.Omega.{arith}
+use Rattle.prices.proofs.PriceLaws.{step-known}
+use Rattle.prices.proofs.increments.steps_in_a_cent.Statement.{statement}
+use Rattle.prices.proofs.increments.steps_in_a_cent.Tie as tie
+
+returns : tie.Need-returns
+returns c = (omega (arith, c .if1 .taken), omega arith)
+
+returns-2 : tie.Need-returns-2
+returns-2 c = (step-known _ (c .before .pre) .half (c .if1 .left), omega arith)
+
+pub steps-in-a-cent-spec : {M : Type 1} → statement M
+steps-in-a-cent-spec = tie.close (tie.spec returns returns-2)
