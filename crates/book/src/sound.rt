@@ -5,6 +5,7 @@ ghost use mathlib.Core.Path.{_≡_};
 ghost use Prim.Native.Nat.{_<_, _≤_};
 ghost use lib.Dec.{T};
 ghost use lib.ListN.{length};
+ghost use Rattle.prices.specs.Prices.{isStep};
 ghost use Rattle.book.specs.rules.Sound.{slideAllowed, soundOrder};
 ghost use Rattle.book.specs.rules.Words.{venueWords, word, orderAt, headerLaidOut, soundBook};
 ghost use Rattle.book.specs.steps.RecordWalk.{fromOne, codesSound, pricesSound, bitsAt, marketAt, idBefore, bucketOf, stampSeen, lastIn, Linked, soundAt};
@@ -41,15 +42,16 @@ pub fn slide_allowed(mark: u32, slide: u32) -> bool
 }
 
 // The present price of most orders is their limit.
-fn prices_sound(limit: u32, price: u32, entry_bid: u32) -> bool
-    ensures { λ r. ⌜ r ≡ pricesSound limit price «entry_bid» ⌝ }
+fn prices_sound(step: u32, limit: u32, price: u32, entry_bid: u32) -> bool
+    requires { ⌜ T (isStep step) ⌝ }
+    ensures { λ r. ⌜ r ≡ pricesSound step limit price «entry_bid» ⌝ }
 {
-    if increments::is_legal(limit) {
+    if increments::is_legal(step, limit) {
         if price == limit {
-            return increments::is_bid(entry_bid);
+            return increments::is_bid(step, entry_bid);
         }
-        if increments::is_legal(price) {
-            return increments::is_bid(entry_bid);
+        if increments::is_legal(step, price) {
+            return increments::is_bid(step, entry_bid);
         }
     }
     false
@@ -66,9 +68,9 @@ fn from_one(x: u32, highest: u32) -> bool
 }
 
 // Whether an order is sound whose show is 0 or 1 and whose market flag is allowed.
-fn order_sound(w: &[u32], i: usize, last_id: u32, last_stamp: u32) -> bool
-    requires { ⌜ (venueWords ≤ length (now w)) × (i < 256) × (word (now w) i 4 ≤ 1) × T (marketAt (now w) i) ⌝ }
-    ensures { λ r. ⌜ r ≡ soundOrder «last_id» «last_stamp» (orderAt (now (w .entry)) i) ⌝ }
+fn order_sound(w: &[u32], i: usize, step: u32, last_id: u32, last_stamp: u32) -> bool
+    requires { ⌜ (venueWords ≤ length (now w)) × (i < 256) × (word (now w) i 4 ≤ 1) × T (marketAt (now w) i) × T (isStep step) ⌝ }
+    ensures { λ r. ⌜ r ≡ soundOrder step «last_id» «last_stamp» (orderAt (now (w .entry)) i) ⌝ }
 {
     if words::word_at(w, i, words::ID) > last_id {
         return false;
@@ -81,6 +83,7 @@ fn order_sound(w: &[u32], i: usize, last_id: u32, last_stamp: u32) -> bool
                 words::word_at(w, i, words::SLIDE),
             ) {
                 return prices_sound(
+                    step,
                     words::word_at(w, i, words::LIMIT),
                     words::word_at(w, i, words::PRICE),
                     words::word_at(w, i, words::ENTRY_BID),
@@ -119,14 +122,21 @@ fn market_sound(w: &[u32], i: usize) -> bool
 }
 
 // Whether place i is sound by itself and beside the id of the place before it, 0 for the first.
-fn place_sound(w: &[u32], i: usize, before: u32, last_id: u32, last_stamp: u32) -> bool
-    requires { ⌜ (venueWords ≤ length (now w)) × (i < 256) × (before ≡ idBefore (now w) i) ⌝ }
-    ensures { λ r. ⌜ r ≡ soundAt «last_id» «last_stamp» (now (w .entry)) i ⌝ }
+fn place_sound(
+    w: &[u32],
+    i: usize,
+    before: u32,
+    step: u32,
+    last_id: u32,
+    last_stamp: u32,
+) -> bool
+    requires { ⌜ (venueWords ≤ length (now w)) × (i < 256) × (before ≡ idBefore (now w) i) × T (isStep step) ⌝ }
+    ensures { λ r. ⌜ r ≡ soundAt step «last_id» «last_stamp» (now (w .entry)) i ⌝ }
 {
     if bits_sound(w, i) {
         if before < words::word_at(w, i, words::ID) {
             if market_sound(w, i) {
-                return order_sound(w, i, last_id, last_stamp);
+                return order_sound(w, i, step, last_id, last_stamp);
             }
         }
     }
@@ -162,10 +172,11 @@ fn header_laid_out(w: &[u32]) -> bool
     false
 }
 
-// Whether the words are a book whose orders are sound. A stamp is compared only with those of its bucket: `heads` has the last place
+// Whether the words are a book whose orders are sound at a step. A stamp is compared only with those of its bucket: `heads` has the last place
 // of each bucket and `links` the one before each place in its bucket, counted from 1, 0 for none.
-pub fn is_sound(w: &[u32], last_id: u32, last_stamp: u32) -> bool
-    ensures { λ r. ⌜ r ≡ soundBook «last_id» «last_stamp» (now (w .entry)) ⌝ }
+pub fn is_sound(w: &[u32], step: u32, last_id: u32, last_stamp: u32) -> bool
+    requires { ⌜ T (isStep step) ⌝ }
+    ensures { λ r. ⌜ r ≡ soundBook step «last_id» «last_stamp» (now (w .entry)) ⌝ }
 {
     if !header_laid_out(w) {
         return false;
@@ -176,7 +187,7 @@ pub fn is_sound(w: &[u32], last_id: u32, last_stamp: u32) -> bool
     let mut before = 0;
     let mut i = 0;
     while i < n {
-        if !place_sound(w, i, before, last_id, last_stamp) {
+        if !place_sound(w, i, before, step, last_id, last_stamp) {
             return false;
         }
         let stamp = words::word_at(w, i, words::STAMP);

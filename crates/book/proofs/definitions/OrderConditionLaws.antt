@@ -12,36 +12,36 @@ use Rattle.book.specs.rules.Orders.{reduced}
 use Rattle.book.specs.rules.Sound.{mostShares, slideAllowed, marketAllowed, orderConditions, soundOrder}
 
 -- what an order has from its entry on
-abbrev pub FieldsSound : Order → Type 0
-FieldsSound o =
+abbrev pub FieldsSound : ℕ → Order → Type 0
+FieldsSound step o =
     record {
       mark : o.mark ≤ 3;
-      limit : T (legal (o .limit));
+      limit : T (legal step (o .limit));
       show : o.show ≤ 1;
       life : o.life ≤ 1;
       slide : T (slideAllowed (o .mark) (o .slide));
-      entryBid : T (isBid (o .«entry_bid»));
+      entryBid : T (isBid step (o .«entry_bid»));
       market : T (marketAllowed (o .market) (o .mark) (o .limit));
     }
 
--- an order that may work, and one that may rest; n is the last id and s the last stamp
-abbrev pub MayWork : ℕ → ℕ → Order → Type 0
-MayWork n s o =
+-- an order that may work, and one that may rest, at a step; n is the last id and s the last stamp
+abbrev pub MayWork : ℕ → ℕ → ℕ → Order → Type 0
+MayWork step n s o =
     record {
-      fields : FieldsSound o;
+      fields : FieldsSound step o;
       id : o.id ≤ n;
       first : 1 ≤ o.stamp;
       last : o.stamp ≤ s;
-      price : T (legal (o .price));
+      price : T (legal step (o .price));
       most : o.shares ≤ mostShares;
     }
 
-abbrev pub MayRest : ℕ → ℕ → Order → Type 0
-MayRest n s o = record { works : MayWork n s o; least : 1 ≤ o.shares; day : o.life ≡ 0 }
+abbrev pub MayRest : ℕ → ℕ → ℕ → Order → Type 0
+MayRest step n s o = record { works : MayWork step n s o; least : 1 ≤ o.shares; day : o.life ≡ 0 }
 
 -- an order that is said to be a market short is a short with limit 1
-pub market-short : (o : Order) → T (o .market) → FieldsSound o → (o.mark ≡ 2) × (o.limit ≡ 1)
-market-short o t f = go (or-T (not (o .market)) (eqb (o .mark) 2 && eqb (o .limit) 1) (f .market))
+pub market-short : (step : ℕ) (o : Order) → T (o .market) → FieldsSound step o → (o.mark ≡ 2) × (o.limit ≡ 1)
+market-short step o t f = go (or-T (not (o .market)) (eqb (o .mark) 2 && eqb (o .limit) 1) (f .market))
   where
     go : T (not (o .market)) ⊎ T (eqb (o .mark) 2 && eqb (o .limit) 1) → (o.mark ≡ 2) × (o.limit ≡ 1)
     go (inl x) = absurd (T-not (o .market) x t)
@@ -52,13 +52,13 @@ market-allowed true mark limit h = let k = h tt in T-and (eqb mark 2) _ (eq→T 
 market-allowed false mark limit h = tt
 
 -- the order with q shares less
-pub mayWork-reduced : (n s q : ℕ) (o : Order) → MayWork n s o → MayWork n s (reduced q o)
-mayWork-reduced n s q o h =
+pub mayWork-reduced : (step n s q : ℕ) (o : Order) → MayWork step n s o → MayWork step n s (reduced q o)
+mayWork-reduced step n s q o h =
     record { fields = h .fields; id = h .id; first = h .first; last = h .last; price = h .price; most = omega (arith, h .most) }
 
 -- the same order under a later id and stamp
-pub mayRest-later : (n s m r : ℕ) → n ≤ m → s ≤ r → (o : Order) → MayRest n s o → MayRest m r o
-mayRest-later n s m r l k o h =
+pub mayRest-later : (step n s m r : ℕ) → n ≤ m → s ≤ r → (o : Order) → MayRest step n s o → MayRest step m r o
+mayRest-later step n s m r l k o h =
     let w = h .works in
     record {
       works = record { fields = w .fields; id = omega (arith, w .id); first = w .first; last = omega (arith, w .last); price = w .price; most = w .most };
@@ -66,11 +66,11 @@ mayRest-later n s m r l k o h =
       day = h .day;
     }
 
-pub order-mayRest : (n s : ℕ) (o : Order) → T (soundOrder n s o) → MayRest n s o
+pub order-mayRest : (step n s : ℕ) (o : Order) → T (soundOrder step n s o) → MayRest step n s o
 unfolding soundOrder
-order-mayRest n s o t = go (conj-T (orderConditions n s o) t)
+order-mayRest step n s o t = go (conj-T (orderConditions step n s o) t)
   where
-    go : Each (orderConditions n s o) → MayRest n s o
+    go : Each (orderConditions step n s o) → MayRest step n s o
     go (id, (mark, (limit, (least, (most, (show, (life, (slide, (first, (last, (price, (entryBid, (market, end))))))))))))) =
         record {
           works =
@@ -86,9 +86,9 @@ order-mayRest n s o t = go (conj-T (orderConditions n s o) t)
           day = eqb→eq _ _ life;
         }
 
-pub mayRest-order : (n s : ℕ) (o : Order) → MayRest n s o → T (soundOrder n s o)
+pub mayRest-order : (step n s : ℕ) (o : Order) → MayRest step n s o → T (soundOrder step n s o)
 unfolding soundOrder
-mayRest-order n s o h =
+mayRest-order step n s o h =
     let w = h .works in
     let f = w .fields in
-    T-conj (orderConditions n s o) (le→leb _ _ (w .id), (le→leb _ _ (f .mark), (f .limit, (le→leb _ _ (h .least), (le→leb _ _ (w .most), (le→leb _ _ (f .show), (eq→T (h .day), (f .slide, (le→leb _ _ (w .first), (le→leb _ _ (w .last), (w .price, (f .entryBid, (f .market, tt)))))))))))))
+    T-conj (orderConditions step n s o) (le→leb _ _ (w .id), (le→leb _ _ (f .mark), (f .limit, (le→leb _ _ (h .least), (le→leb _ _ (w .most), (le→leb _ _ (f .show), (eq→T (h .day), (f .slide, (le→leb _ _ (w .first), (le→leb _ _ (w .last), (w .price, (f .entryBid, (f .market, tt)))))))))))))

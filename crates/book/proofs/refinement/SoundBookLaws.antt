@@ -75,33 +75,33 @@ at-differ (suc n) f h =
 
 -- all conditions, place by place
 
-pub record SoundPlaces (lastId lastStamp : ℕ) (w : List ℕ) : Type 0 where
+pub record SoundPlaces (step lastId lastStamp : ℕ) (w : List ℕ) : Type 0 where
   pub header : HeaderLaidOut w
-  pub sound : (i : ℕ) → i < getD w 0 0 → T (soundAt lastId lastStamp w i)
+  pub sound : (i : ℕ) → i < getD w 0 0 → T (soundAt step lastId lastStamp w i)
   pub unseen : (i : ℕ) → i < getD w 0 0 → T (not (stampSeen w (stampAt w i) i))
 
 -- what a sound book is, for the layer above
-pub record SoundParts (lastId lastStamp : ℕ) (w : List ℕ) : Type 0 where
+pub record SoundParts (step lastId lastStamp : ℕ) (w : List ℕ) : Type 0 where
   pub layout : T (isBook w)
   pub rising : T (idsRise 0 (resting w))
-  pub orders : All (λ (o : Order). T (soundOrder lastId lastStamp o)) (resting w)
+  pub orders : All (λ (o : Order). T (soundOrder step lastId lastStamp o)) (resting w)
   pub stamps : T (stampsDiffer (resting w))
 
-module _ (lastId lastStamp : ℕ) (w : List ℕ) where
-  pub soundBook-parts : T (soundBook lastId lastStamp w) → SoundParts lastId lastStamp w
+module _ (step lastId lastStamp : ℕ) (w : List ℕ) where
+  pub soundBook-parts : T (soundBook step lastId lastStamp w) → SoundParts step lastId lastStamp w
   unfolding soundBook
   soundBook-parts t =
       let a = and-T (isBook w) _ t in
       let b = and-T (idsRise 0 (resting w)) _ (a .1) in
-      let c = and-T (every (soundOrder lastId lastStamp) (resting w)) (stampsDiffer (resting w)) (b .1) in
-      record { layout = a .0; rising = b .0; orders = every-T (soundOrder lastId lastStamp) (resting w) (c .0); stamps = c .1 }
+      let c = and-T (every (soundOrder step lastId lastStamp) (resting w)) (stampsDiffer (resting w)) (b .1) in
+      record { layout = a .0; rising = b .0; orders = every-T (soundOrder step lastId lastStamp) (resting w) (c .0); stamps = c .1 }
 
-  pub parts-soundBook : SoundParts lastId lastStamp w → T (soundBook lastId lastStamp w)
+  pub parts-soundBook : SoundParts step lastId lastStamp w → T (soundBook step lastId lastStamp w)
   unfolding soundBook
   parts-soundBook p =
-      T-and (isBook w) _ (p .layout) (T-and (idsRise 0 (resting w)) _ (p .rising) (T-and (every (soundOrder lastId lastStamp) (resting w)) _ (T-every (soundOrder lastId lastStamp) (resting w) (p .orders)) (p .stamps)))
+      T-and (isBook w) _ (p .layout) (T-and (idsRise 0 (resting w)) _ (p .rising) (T-and (every (soundOrder step lastId lastStamp) (resting w)) _ (T-every (soundOrder step lastId lastStamp) (resting w) (p .orders)) (p .stamps)))
 
-  parts-places : SoundParts lastId lastStamp w → SoundPlaces lastId lastStamp w
+  parts-places : SoundParts step lastId lastStamp w → SoundPlaces step lastId lastStamp w
   unfolding soundAt resting
   parts-places p =
       let n = getD w 0 0 in
@@ -110,28 +110,28 @@ module _ (lastId lastStamp : ℕ) (w : List ℕ) where
       record {
         header = h.header;
         sound =
-            λ i l. T-and (flagsAt w i) _ (h .flags i l) (T-and (ltb (idBefore w i) (word w i 0)) _ (le→leb _ _ (subst (λ (x : ℕ). x < word w i 0) (before-is w i) (r i l))) (all-tabulate (λ (o : Order). T (soundOrder lastId lastStamp o)) n (orderAt w) (p .orders) i l));
+            λ i l. T-and (flagsAt w i) _ (h .flags i l) (T-and (ltb (idBefore w i) (word w i 0)) _ (le→leb _ _ (subst (λ (x : ℕ). x < word w i 0) (before-is w i) (r i l))) (all-tabulate (λ (o : Order). T (soundOrder step lastId lastStamp o)) n (orderAt w) (p .orders) i l));
         unseen =
             λ i l. T-unseen w (stampAt w i) i (λ j m. differ-at n (orderAt w) (stampsDiffer-differ (resting w) (p .stamps)) i j l m);
       }
 
-  places-parts : SoundPlaces lastId lastStamp w → SoundParts lastId lastStamp w
+  places-parts : SoundPlaces step lastId lastStamp w → SoundParts step lastId lastStamp w
   unfolding soundAt resting
   places-parts p =
       let n = getD w 0 0 in
-      let a : (i : ℕ) → i < n → T (flagsAt w i) × T (ltb (idBefore w i) (word w i 0) && soundOrder lastId lastStamp (orderAt w i)) = λ i l. and-T (flagsAt w i) _ (p .sound i l) in
-      let b : (i : ℕ) → i < n → T (ltb (idBefore w i) (word w i 0)) × T (soundOrder lastId lastStamp (orderAt w i)) = λ i l. and-T (ltb (idBefore w i) (word w i 0)) _ (a i l .1) in
+      let a : (i : ℕ) → i < n → T (flagsAt w i) × T (ltb (idBefore w i) (word w i 0) && soundOrder step lastId lastStamp (orderAt w i)) = λ i l. and-T (flagsAt w i) _ (p .sound i l) in
+      let b : (i : ℕ) → i < n → T (ltb (idBefore w i) (word w i 0)) × T (soundOrder step lastId lastStamp (orderAt w i)) = λ i l. and-T (ltb (idBefore w i) (word w i 0)) _ (a i l .1) in
       record {
         layout = laidOut-isBook w (record { header = p.header; flags = λ i l. a i l .0 });
         rising =
             rises-idsRise 0 (resting w) (at-rises 0 n (orderAt w) (λ i l. subst (λ (x : ℕ). x < word w i 0) (sym (before-is w i)) (leb→le _ _ (b i l .0))));
-        orders = tabulate-all (λ (o : Order). T (soundOrder lastId lastStamp o)) n (orderAt w) (λ i l. b i l .1);
+        orders = tabulate-all (λ (o : Order). T (soundOrder step lastId lastStamp o)) n (orderAt w) (λ i l. b i l .1);
         stamps =
             differ-stampsDiffer (resting w) (at-differ n (orderAt w) (λ i j l m. unseen-T w (stampAt w i) i (p .unseen i l) j m));
       }
 
-  pub soundBook-places : T (soundBook lastId lastStamp w) → SoundPlaces lastId lastStamp w
+  pub soundBook-places : T (soundBook step lastId lastStamp w) → SoundPlaces step lastId lastStamp w
   soundBook-places t = parts-places (soundBook-parts t)
 
-  pub places-soundBook : SoundPlaces lastId lastStamp w → T (soundBook lastId lastStamp w)
+  pub places-soundBook : SoundPlaces step lastId lastStamp w → T (soundBook step lastId lastStamp w)
   places-soundBook p = parts-soundBook (places-parts p)

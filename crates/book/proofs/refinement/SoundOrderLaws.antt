@@ -16,16 +16,16 @@ use Rattle.book.specs.steps.RecordWalk.{fromOne, codesSound, pricesSound
 use Rattle.book.proofs.definitions.OrderConditionLaws.{MayRest, order-mayRest}
 
 -- an order whose show is 0 or 1 and whose market flag is allowed
-sound-groups : (lastId lastStamp : ℕ) (o : Order) → o.show ≤ 1 → T (marketAllowed (o .market) (o .mark) (o .limit)) → soundOrder lastId lastStamp o ≡ (leb (o .id) lastId && (fromOne (o .shares) mostShares && (fromOne (o .stamp) lastStamp && (codesSound (o .mark) (o .life) (o .slide) && pricesSound (o .limit) (o .price) (o .«entry_bid»)))))
+sound-groups : (step lastId lastStamp : ℕ) (o : Order) → o.show ≤ 1 → T (marketAllowed (o .market) (o .mark) (o .limit)) → soundOrder step lastId lastStamp o ≡ (leb (o .id) lastId && (fromOne (o .shares) mostShares && (fromOne (o .stamp) lastStamp && (codesSound (o .mark) (o .life) (o .slide) && pricesSound step (o .limit) (o .price) (o .«entry_bid»)))))
 unfolding soundOrder fromOne codesSound pricesSound
-sound-groups lastId lastStamp o h k = bool-ext _ _ there back
+sound-groups step lastId lastStamp o h k = bool-ext _ _ there back
   where
-    there : T (soundOrder lastId lastStamp o) → T (leb (o .id) lastId && (fromOne (o .shares) mostShares && (fromOne (o .stamp) lastStamp && (codesSound (o .mark) (o .life) (o .slide) && pricesSound (o .limit) (o .price) (o .«entry_bid»)))))
+    there : T (soundOrder step lastId lastStamp o) → T (leb (o .id) lastId && (fromOne (o .shares) mostShares && (fromOne (o .stamp) lastStamp && (codesSound (o .mark) (o .life) (o .slide) && pricesSound step (o .limit) (o .price) (o .«entry_bid»)))))
     there t =
-        let (id, (mark, (limit, (sharesLow, (sharesHigh, (show, (life, (slide, (stampLow, (stampHigh, (price, (bid, (_, _))))))))))))) = conj-T (orderConditions lastId lastStamp o) t in
-        T-and (leb (o .id) lastId) _ id (T-and (fromOne (o .shares) mostShares) _ (T-and (leb 1 (o .shares)) _ sharesLow sharesHigh) (T-and (fromOne (o .stamp) lastStamp) _ (T-and (leb 1 (o .stamp)) _ stampLow stampHigh) (T-and (codesSound (o .mark) (o .life) (o .slide)) _ (T-and (eqb (o .life) 0) _ life (T-and (leb (o .mark) 3) _ mark slide)) (T-and (legal (o .limit)) _ limit (T-and (legal (o .price)) _ price bid)))))
+        let (id, (mark, (limit, (sharesLow, (sharesHigh, (show, (life, (slide, (stampLow, (stampHigh, (price, (bid, (_, _))))))))))))) = conj-T (orderConditions step lastId lastStamp o) t in
+        T-and (leb (o .id) lastId) _ id (T-and (fromOne (o .shares) mostShares) _ (T-and (leb 1 (o .shares)) _ sharesLow sharesHigh) (T-and (fromOne (o .stamp) lastStamp) _ (T-and (leb 1 (o .stamp)) _ stampLow stampHigh) (T-and (codesSound (o .mark) (o .life) (o .slide)) _ (T-and (eqb (o .life) 0) _ life (T-and (leb (o .mark) 3) _ mark slide)) (T-and (legal step (o .limit)) _ limit (T-and (legal step (o .price)) _ price bid)))))
 
-    back : T (leb (o .id) lastId && (fromOne (o .shares) mostShares && (fromOne (o .stamp) lastStamp && (codesSound (o .mark) (o .life) (o .slide) && pricesSound (o .limit) (o .price) (o .«entry_bid»))))) → T (soundOrder lastId lastStamp o)
+    back : T (leb (o .id) lastId && (fromOne (o .shares) mostShares && (fromOne (o .stamp) lastStamp && (codesSound (o .mark) (o .life) (o .slide) && pricesSound step (o .limit) (o .price) (o .«entry_bid»))))) → T (soundOrder step lastId lastStamp o)
     back t =
         let a = and-T (leb (o .id) lastId) _ t in
         let b = and-T (fromOne (o .shares) mostShares) _ (a .1) in
@@ -35,14 +35,14 @@ sound-groups lastId lastStamp o h k = bool-ext _ _ there back
         let stamp = and-T (leb 1 (o .stamp)) _ (c .0) in
         let life = and-T (eqb (o .life) 0) _ (d .0) in
         let mark = and-T (leb (o .mark) 3) _ (life .1) in
-        let limit = and-T (legal (o .limit)) _ (d .1) in
-        let price = and-T (legal (o .price)) _ (limit .1) in
-        T-conj (orderConditions lastId lastStamp o) (a .0, (mark .0, (limit .0, (shares .0, (shares .1, (le→leb _ _ h, (life .0, (mark .1, (stamp .0, (stamp .1, (price .0, (price .1, (k, tt)))))))))))))
+        let limit = and-T (legal step (o .limit)) _ (d .1) in
+        let price = and-T (legal step (o .price)) _ (limit .1) in
+        T-conj (orderConditions step lastId lastStamp o) (a .0, (mark .0, (limit .0, (shares .0, (shares .1, (le→leb _ _ h, (life .0, (mark .1, (stamp .0, (stamp .1, (price .0, (price .1, (k, tt)))))))))))))
 
 -- the order at place i
-pub place-groups : (lastId lastStamp : ℕ) (w : List ℕ) (i : ℕ) → word w i 4 ≤ 1 → T (marketAt w i) → let o : Order = orderAt w i in soundOrder lastId lastStamp o ≡ (leb (o .id) lastId && (fromOne (o .shares) mostShares && (fromOne (o .stamp) lastStamp && (codesSound (o .mark) (o .life) (o .slide) && pricesSound (o .limit) (o .price) (o .«entry_bid»)))))
+pub place-groups : (step lastId lastStamp : ℕ) (w : List ℕ) (i : ℕ) → word w i 4 ≤ 1 → T (marketAt w i) → let o : Order = orderAt w i in soundOrder step lastId lastStamp o ≡ (leb (o .id) lastId && (fromOne (o .shares) mostShares && (fromOne (o .stamp) lastStamp && (codesSound (o .mark) (o .life) (o .slide) && pricesSound step (o .limit) (o .price) (o .«entry_bid»)))))
 unfolding marketAt
-place-groups lastId lastStamp w i h k = sound-groups lastId lastStamp (orderAt w i) h k
+place-groups step lastId lastStamp w i h k = sound-groups step lastId lastStamp (orderAt w i) h k
 
 -- the slide of a short, and that of another order
 
@@ -79,19 +79,19 @@ pub five-bits : (a b c d e : ℕ) → leb (bitOr a (bitOr b (bitOr c (bitOr d e)
 five-bits a b c d e =
     both-bits a _ ∙ ap (λ (x : Bool). leb a 1 && x) (both-bits b _ ∙ ap (λ (x : Bool). leb b 1 && x) (both-bits c _ ∙ ap (λ (x : Bool). leb c 1 && x) (both-bits d e)))
 
-module _ (lastId lastStamp : ℕ) (w : List ℕ) (i : ℕ) where
+module _ (step lastId lastStamp : ℕ) (w : List ℕ) (i : ℕ) where
   -- what holds of a place that is sound
-  sound-flags : T (soundAt lastId lastStamp w i) → T (flagsAt w i) × MayRest lastId lastStamp (orderAt w i)
+  sound-flags : T (soundAt step lastId lastStamp w i) → T (flagsAt w i) × MayRest step lastId lastStamp (orderAt w i)
   unfolding soundAt
   sound-flags t =
       let p = and-T (flagsAt w i) _ t in
-      (p .0, order-mayRest lastId lastStamp (orderAt w i) (and-T (ltb (idBefore w i) (word w i 0)) _ (p .1) .1))
+      (p .0, order-mayRest step lastId lastStamp (orderAt w i) (and-T (ltb (idBefore w i) (word w i 0)) _ (p .1) .1))
 
-  pub unsound-bits : bitsAt w i ≡ false → soundAt lastId lastStamp w i ≡ false
+  pub unsound-bits : bitsAt w i ≡ false → soundAt step lastId lastStamp w i ≡ false
   unfolding bitsAt
   unsound-bits e =
       bool-ext _ _ (λ t. let p = sound-flags t in subst T e (T-and (leb (word w i 4) 1) _ (le→leb _ _ (p .1 .works .fields .show)) (p .0))) (λ t. absurd t)
 
-  pub unsound-market : marketAt w i ≡ false → soundAt lastId lastStamp w i ≡ false
+  pub unsound-market : marketAt w i ≡ false → soundAt step lastId lastStamp w i ≡ false
   unfolding marketAt
   unsound-market e = bool-ext _ _ (λ t. subst T e (sound-flags t .1 .works .fields .market)) (λ t. absurd t)

@@ -29,13 +29,13 @@ unfoldable pub stampsDiffer : List Order → Bool
 stampsDiffer [] = true
 stampsDiffer (o ∷ os) = every (λ (x : Order). not (eqb (o .stamp) (x .stamp))) os && stampsDiffer os
 
--- "to the last id; prices and limits legal; shares and codes .. in range; slide 0 unless the mark is 2; each life 0; stamps .. from 1
+-- at the venue's step (No. 2): "to the last id; prices and limits legal; shares and codes .. in range; slide 0 unless the mark is 2; each life 0; stamps .. from 1
 -- to the last stamp; .. entry bids each a bid"; No. 1's condition on market shorts
-abbrev pub orderConditions : ℕ → ℕ → Order → List Bool
-orderConditions lastId lastStamp o =
-    leb (o .id) lastId ∷ leb (o .mark) 3 ∷ legal (o .limit) ∷ leb 1 (o .shares) ∷ leb (o .shares) mostShares ∷ leb (o .show) 1 ∷ eqb (o .life) 0
-    ∷ slideAllowed (o .mark) (o .slide) ∷ leb 1 (o .stamp) ∷ leb (o .stamp) lastStamp ∷ legal (o .price) ∷ isBid (o .«entry_bid»)
+abbrev pub orderConditions : ℕ → ℕ → ℕ → Order → List Bool
+orderConditions step lastId lastStamp o =
+    leb (o .id) lastId ∷ leb (o .mark) 3 ∷ legal step (o .limit) ∷ leb 1 (o .shares) ∷ leb (o .shares) mostShares ∷ leb (o .show) 1 ∷ eqb (o .life) 0
+    ∷ slideAllowed (o .mark) (o .slide) ∷ leb 1 (o .stamp) ∷ leb (o .stamp) lastStamp ∷ legal step (o .price) ∷ isBid step (o .«entry_bid»)
     ∷ marketAllowed (o .market) (o .mark) (o .limit) ∷ []
 
-unfoldable pub soundOrder : ℕ → ℕ → Order → Bool
-soundOrder lastId lastStamp o = conj (orderConditions lastId lastStamp o)
+unfoldable pub soundOrder : ℕ → ℕ → ℕ → Order → Bool
+soundOrder step lastId lastStamp o = conj (orderConditions step lastId lastStamp o)

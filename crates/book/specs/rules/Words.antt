@@ -93,6 +93,6 @@ unfoldable pub isBook : List ℕ → Bool
 isBook w = headerLaidOut w && conj (tabulate (getD w 0 0) (flagsAt w))
 
 -- the words are a book, and its orders meet the conditions of refusal 16
-unfoldable pub soundBook : ℕ → ℕ → List ℕ → Bool
-soundBook lastId lastStamp w =
-    isBook w && (idsRise 0 (resting w) && (every (soundOrder lastId lastStamp) (resting w) && stampsDiffer (resting w)))
+unfoldable pub soundBook : ℕ → ℕ → ℕ → List ℕ → Bool
+soundBook step lastId lastStamp w =
+    isBook w && (idsRise 0 (resting w) && (every (soundOrder step lastId lastStamp) (resting w) && stampsDiffer (resting w)))

@@ -19,8 +19,8 @@ fromOne x highest = leb 1 x && leb x highest
 unfoldable pub codesSound : ℕ → ℕ → ℕ → Bool
 codesSound mark life slide = eqb life 0 && (leb mark 3 && slideAllowed mark slide)
 
-unfoldable pub pricesSound : ℕ → ℕ → ℕ → Bool
-pricesSound limit price bid = legal limit && (legal price && isBid bid)
+unfoldable pub pricesSound : ℕ → ℕ → ℕ → ℕ → Bool
+pricesSound step limit price bid = legal step limit && (legal step price && isBid step bid)
 
 -- No. 1: a market flag at place i stands on a short with limit 1
 unfoldable pub marketAt : List ℕ → ℕ → Bool
@@ -58,6 +58,6 @@ unfoldable pub bitsAt : List ℕ → ℕ → Bool
 bitsAt w i = leb (word w i 4) 1 && flagsAt w i
 
 -- place i by itself and beside the place before it
-unfoldable pub soundAt : ℕ → ℕ → List ℕ → ℕ → Bool
-soundAt lastId lastStamp w i =
-    flagsAt w i && (ltb (idBefore w i) (word w i 0) && soundOrder lastId lastStamp (orderAt w i))
+unfoldable pub soundAt : ℕ → ℕ → ℕ → List ℕ → ℕ → Bool
+soundAt step lastId lastStamp w i =
+    flagsAt w i && (ltb (idBefore w i) (word w i 0) && soundOrder step lastId lastStamp (orderAt w i))

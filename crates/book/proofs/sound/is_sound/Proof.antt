@@ -13,17 +13,17 @@ use Rattle.book.proofs.sound.is_sound.Statement.{statement}
 use Rattle.book.proofs.sound.is_sound.Tie as tie
 
 abbrev Inv-loop : tie.InvT-loop
-Inv-loop w last-id last-stamp n heads₀ links₀ before₀ i₀ heads links before i =
-    Walked last-id last-stamp w heads links i × (n ≡ getD w 0 0) × (before ≡ idBefore w i)
+Inv-loop w step last-id last-stamp n heads₀ links₀ before₀ i₀ heads links before i =
+    Walked step last-id last-stamp w heads links i × (n ≡ getD w 0 0) × (before ≡ idBefore w i)
 
 abbrev μ-loop : tie.MeasureT-loop
-μ-loop w last-id last-stamp n heads₀ links₀ before₀ i₀ heads links before i = n - i
+μ-loop w step last-id last-stamp n heads₀ links₀ before₀ i₀ heads links before i = n - i
 
 header-laid-out-requires : tie.Need-header-laid-out-requires Inv-loop μ-loop
 header-laid-out-requires c κs = search needs
 
 returns : tie.Need-returns Inv-loop μ-loop
-returns c = let s = c .before .before .before in let h = c .before .header-laid-out in not-laid-out (s .args .last-id) (s .args .last-stamp) (s .args .w .now) (sym (h .ensures) ∙ not-yes (h .result) (c .if1 .taken))
+returns c = let s = c .before .before .before in let h = c .before .header-laid-out in not-laid-out (s .args .step) (s .args .last-id) (s .args .last-stamp) (s .args .w .now) (sym (h .ensures) ∙ not-yes (h .result) (c .if1 .taken))
 
 shared-slice-read-wide : tie.Need-shared-slice-read-wide Inv-loop μ-loop
 shared-slice-read-wide c = let h = c .before .before .header-laid-out in let k = headerLaidOut-facts (c .before .before .before .before .args .w .now) (answered-T (h .ensures) (not-no (h .result) (c .before .if1 .left))) in search (needs, k .long)
@@ -32,17 +32,20 @@ wide-requires : tie.Need-wide-requires Inv-loop μ-loop
 wide-requires c κs = search needs
 
 loop-holds : tie.Need-loop-holds Inv-loop μ-loop
-loop-holds c = let s = c .before .before .before .before .before in let h = c .before .before .before .header-laid-out in (walked-start (s .args .last-id) (s .args .last-stamp) (s .args .w .now) (sym (h .ensures) ∙ not-no (h .result) (c .before .before .if1 .left)), c .wide .ensures, refl)
+loop-holds c = let s = c .before .before .before .before .before in let h = c .before .before .before .header-laid-out in (walked-start (s .args .step) (s .args .last-id) (s .args .last-stamp) (s .args .w .now) (sym (h .ensures) ∙ not-no (h .result) (c .before .before .if1 .left)), c .wide .ensures, refl)
 
 place-sound-requires : tie.Need-place-sound-requires Inv-loop μ-loop
-place-sound-requires c κs = let k = c .before .loop .inv .0 in (k .header .long, omega (arith, c .loop-test .taken, k .header .few, c .before .loop .inv .1), c .before .loop .inv .2)
+place-sound-requires c κs =
+    let turn = c .before in
+    let k = turn .loop .inv .0 in
+    (k .header .long, omega (arith, c .loop-test .taken, k .header .few, turn .loop .inv .1), turn .loop .inv .2, turn .before .before .before .before .before .before .pre)
 
 returns-2 : tie.Need-returns-2 Inv-loop μ-loop
 returns-2 c =
     let placed = c .before in
     let turn = placed .before .before in
     let s = turn .before .before .before .before .before .before in
-    unsound-place (s .args .last-id) (s .args .last-stamp) (s .args .w .now) (turn .loop .i) (omega (arith, placed .before .loop-test .taken, turn .loop .inv .1)) (sym (placed .place-sound .ensures) ∙ not-yes (placed .place-sound .result) (c .if2 .taken))
+    unsound-place (s .args .step) (s .args .last-id) (s .args .last-stamp) (s .args .w .now) (turn .loop .i) (omega (arith, placed .before .loop-test .taken, turn .loop .inv .1)) (sym (placed .place-sound .ensures) ∙ not-yes (placed .place-sound .result) (c .if2 .taken))
 
 word-at-requires : tie.Need-word-at-requires Inv-loop μ-loop
 word-at-requires c κs = search needs
@@ -70,7 +73,7 @@ returns-3 c =
     let tested = stamp .before .before .before in
     let turn = tested .before in
     let s = turn .before .before .before .before .before .before in
-    seen-stamp (s .args .last-id) (s .args .last-stamp) (s .args .w .now) (turn .loop .i) (stamp .word-at .result) (omega (arith, tested .loop-test .taken, turn .loop .inv .1)) (stamp .word-at .ensures) (sym (c .before .stamp-seen .ensures) ∙ c .if3 .taken)
+    seen-stamp (s .args .step) (s .args .last-id) (s .args .last-stamp) (s .args .w .now) (turn .loop .i) (stamp .word-at .result) (omega (arith, tested .loop-test .taken, turn .loop .inv .1)) (stamp .word-at .ensures) (sym (c .before .stamp-seen .ensures) ∙ c .if3 .taken)
 
 mul-links : tie.Need-mul-links Inv-loop μ-loop
 mul-links c = search needs
@@ -108,10 +111,10 @@ loop-again c =
     let turn = placed .before .before in
     let s = turn .before .before .before .before .before .before in
     let w = s .args .w .now in
-    (walked-more (s .args .last-id) (s .args .last-stamp) w (stamp .word-at .result) (looked .wide2 .result) _ (turn .loop .inv .0) (omega (arith, placed .before .loop-test .taken, turn .loop .inv .1)) (stamp .word-at .ensures) (looked .wide2 .ensures) refl (sym (placed .place-sound .ensures) ∙ not-no (placed .place-sound .result) (stamp .before .if2 .left)) (sym (seen .stamp-seen .ensures) ∙ c .before .if3 .left), turn .loop .inv .1, c .word-at2 .ensures ∙ idBefore-next w (turn .loop .i))
+    (walked-more (s .args .step) (s .args .last-id) (s .args .last-stamp) w (stamp .word-at .result) (looked .wide2 .result) _ (turn .loop .inv .0) (omega (arith, placed .before .loop-test .taken, turn .loop .inv .1)) (stamp .word-at .ensures) (looked .wide2 .ensures) refl (sym (placed .place-sound .ensures) ∙ not-no (placed .place-sound .result) (stamp .before .if2 .left)) (sym (seen .stamp-seen .ensures) ∙ c .before .if3 .left), turn .loop .inv .1, c .word-at2 .ensures ∙ idBefore-next w (turn .loop .i))
 
 returns-4 : tie.Need-returns-4 Inv-loop μ-loop
-returns-4 c = let s = c .before .before .before .before .before .before .before in let w = s .args .w .now in let a = s .args .last-id in let b = s .args .last-stamp in walked-all a b w (c .before .loop .inv .0) (omega (arith, c .loop-test .left, c .before .loop .inv .1))
+returns-4 c = let s = c .before .before .before .before .before .before .before in let w = s .args .w .now in walked-all (s .args .step) (s .args .last-id) (s .args .last-stamp) w (c .before .loop .inv .0) (omega (arith, c .loop-test .left, c .before .loop .inv .1))
 
 pub is-sound-spec : {M : Type 1} → statement M
 is-sound-spec =

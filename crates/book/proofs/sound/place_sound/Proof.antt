@@ -26,21 +26,21 @@ market-sound-requires : tie.Need-market-sound-requires
 market-sound-requires c κs = search needs
 
 order-sound-requires : tie.Need-order-sound-requires
-order-sound-requires c κs = let s = c .before .before .before .before .before .before .before in (s .pre .0, s .pre .1, leb→le _ _ (bits (c .before .before .before .before) .0), answered-T (c .before .market-sound .ensures) (c .if3 .taken))
+order-sound-requires c κs = let s = c .before .before .before .before .before .before .before in (s .pre .0, s .pre .1, leb→le _ _ (bits (c .before .before .before .before) .0), answered-T (c .before .market-sound .ensures) (c .if3 .taken), s .pre .3)
 
 returns : tie.Need-returns
 unfolding soundAt
 returns c = let s = c .before .before .before .before .before .before .before .before in let w = s .args .w .now in let i = s .args .i in let id = c .before .before .before .before .word-at in sym (and-yes _ (T-true (flagsAt w i) (bits (c .before .before .before .before .before) .1)) ∙ and-yes _ (let k : ltb (idBefore w i) (word w i 0) ≡ true = ap₂ ltb (sym (s .pre .2)) (sym (id .ensures)) ∙ lt-ltb (s .args .before) (id .result) (c .before .before .before .if2 .taken) in k) ∙ sym (c .order-sound .ensures))
 
 returns-2 : tie.Need-returns-2
-returns-2 c = let s = c .before .before .before .before .before .before .before in let w = s .args .w .now in let i = s .args .i in sym (unsound-market (s .args .last-id) (s .args .last-stamp) w i (sym (c .before .market-sound .ensures) ∙ c .if3 .left))
+returns-2 c = let s = c .before .before .before .before .before .before .before in let w = s .args .w .now in let i = s .args .i in sym (unsound-market (s .args .step) (s .args .last-id) (s .args .last-stamp) w i (sym (c .before .market-sound .ensures) ∙ c .if3 .left))
 
 returns-3 : tie.Need-returns-3
 unfolding soundAt
 returns-3 c = let s = c .before .before .before .before .before in let w = s .args .w .now in let i = s .args .i in sym (and-yes _ (T-true (flagsAt w i) (bits (c .before .before) .1)) ∙ and-no _ (let k : ltb (idBefore w i) (word w i 0) ≡ false = ap₂ ltb (sym (s .pre .2)) (sym (c .before .word-at .ensures)) ∙ le-ltb (s .args .before) (c .before .word-at .result) (c .if2 .left) in k))
 
 returns-4 : tie.Need-returns-4
-returns-4 c = let s = c .before .before .before in let w = s .args .w .now in let i = s .args .i in sym (unsound-bits (s .args .last-id) (s .args .last-stamp) w i (sym (c .before .bits-sound .ensures) ∙ c .if1 .left))
+returns-4 c = let s = c .before .before .before in let w = s .args .w .now in let i = s .args .i in sym (unsound-bits (s .args .step) (s .args .last-id) (s .args .last-stamp) w i (sym (c .before .bits-sound .ensures) ∙ c .if1 .left))
 
 pub place-sound-spec : {M : Type 1} → statement M
 place-sound-spec =

@@ -17,7 +17,7 @@ is-bid-requires c κs = search needs
 
 returns : tie.Need-returns
 unfolding pricesSound
-returns c = let l = sym (c .before .before .before .is-legal .ensures) ∙ c .before .before .if1 .taken in sym (and-yes _ l ∙ and-yes _ (subst (λ (p : ℕ). legal p ≡ true) (sym (c .before .if2 .taken)) l) ∙ sym (c .is-bid .ensures))
+returns c = let l = sym (c .before .before .before .is-legal .ensures) ∙ c .before .before .if1 .taken in sym (and-yes _ l ∙ and-yes _ (subst (λ (p : ℕ). legal (c .before .before .before .before .args .step) p ≡ true) (sym (c .before .if2 .taken)) l) ∙ sym (c .is-bid .ensures))
 
 is-legal-requires-2 : tie.Need-is-legal-requires-2
 is-legal-requires-2 c κs = search needs
