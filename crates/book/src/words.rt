@@ -18,7 +18,7 @@ pub const PLACES: usize = 256;
 pub const VENUE: usize = HEADER + PLACES * WIDTH;
 
 // The number of this layout, and the header word that has it.
-pub const LAYOUT: u32 = 2;
+pub const LAYOUT: u32 = 3;
 
 pub const LAYOUT_WORD: usize = 15;
 

@@ -12,7 +12,6 @@ use crate::refuse;
 use book::Position;
 use book::search;
 use book::words;
-use prices::increments;
 ghost use Prim.Native.Nat.{_≤_};
 ghost use lib.Dec.{T};
 ghost use lib.ListN.{length};
@@ -47,7 +46,7 @@ fn apply_bid(w: &mut [u32], reports: &mut [u8], price: u32) -> Answer
     requires { ⌜ MayJudge (now w) (now reports) ⌝ }
     ensures { λ r. ⌜ Applied (now (w .entry)) (bid price) (now (reports .entry)) (outcomeOfAnswer r) (now (w .exit)) (now (reports .exit)) ⌝ }
 {
-    if !increments::is_bid(price) {
+    if !refuse::allows_bid(w, price) {
         return Answer::Refused(Refusal::PriceNotLegal);
     }
     Answer::Accepted(quote::new_bid(w, reports, price))
@@ -57,7 +56,7 @@ fn apply_tape(w: &mut [u32], reports: &mut [u8], price: u32) -> Answer
     requires { ⌜ MayJudge (now w) (now reports) ⌝ }
     ensures { λ r. ⌜ Applied (now (w .entry)) (tape price) (now (reports .entry)) (outcomeOfAnswer r) (now (w .exit)) (now (reports .exit)) ⌝ }
 {
-    if !increments::is_legal(price) {
+    if !refuse::allows_price(w, price) {
         return Answer::Refused(Refusal::PriceNotLegal);
     }
     Answer::Accepted(quote::new_tape(w, reports, price))
@@ -67,7 +66,7 @@ fn apply_day_end(w: &mut [u32], reports: &mut [u8], close: u32) -> Answer
     requires { ⌜ MayJudge (now w) (now reports) ⌝ }
     ensures { λ r. ⌜ Applied (now (w .entry)) (dayEnd close) (now (reports .entry)) (outcomeOfAnswer r) (now (w .exit)) (now (reports .exit)) ⌝ }
 {
-    if !increments::is_legal(close) {
+    if !refuse::allows_price(w, close) {
         return Answer::Refused(Refusal::PriceNotLegal);
     }
     Answer::Accepted(leave::end_day(w, reports, close))

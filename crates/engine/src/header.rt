@@ -20,6 +20,8 @@ pub(crate) const LAST_STAMP: usize = 5;
 
 pub(crate) const ACCEPTED_EVENTS: usize = 6;
 
+pub(crate) const STEP: usize = 7;
+
 pub(crate) fn market(w: &[u32]) -> Market
     requires { ⌜ Book (now w) ⌝ }
     ensures { λ r. ⌜ r ≡ venueOf (now (w .entry)) .market ⌝ }
@@ -28,11 +30,13 @@ pub(crate) fn market(w: &[u32]) -> Market
         close: words::header_word(w, CLOSE),
         phase: words::header_word(w, PHASE),
         bid: words::header_word(w, BID),
+        step: words::header_word(w, STEP),
     }
 }
 
+// A market at the step of the words, which no event changes.
 pub(crate) fn set_market(w: &mut [u32], m: Market)
-    requires { ⌜ Ordered (now w) ⌝ }
+    requires { ⌜ Ordered (now w) × (m .step ≡ venueOf (now w) .market .step) ⌝ }
     ensures { λ _. ⌜ Becomes (now (w .entry)) (now (w .exit)) (inMarket m (venueOf (now (w .entry)))) ⌝ }
 {
     words::set_header_word(w, CLOSE, m.close);

@@ -58,6 +58,7 @@ fn market_after_day_end(m: Market, close: u32) -> Market
         close,
         phase: restriction::phase_after_day_end(m.phase),
         bid: 0,
+        step: m.step,
     }
 }
 

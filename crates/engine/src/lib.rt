@@ -1,4 +1,4 @@
-// The venue of document 01, with document 02 up to No. 1: events, reports, refusals and the law of demand 3. The fourth layer.
+// The venue of document 01, with document 02 up to No. 2: events, reports, refusals and the law of demand 3. The fourth layer.
 pub mod apply;
 pub mod copy;
 mod enter;
@@ -15,11 +15,12 @@ mod working;
 use book::Order;
 use book::words;
 
-// The close, the phase of the restriction and the national bid.
+// The close, the phase of the restriction, the national bid and the step of prices from the dollar border up.
 pub struct Market {
     pub close: u32,
     pub phase: u32,
     pub bid: u32,
+    pub step: u32,
 }
 
 // The fields of an entry, in the order of its record.
@@ -90,6 +91,8 @@ pub enum Refusal {
     NotResting,
     // the words break a condition of a venue record
     VenueBroken,
+    // a step that is neither 50 nor 100
+    NotStep,
 }
 
 // Whether an event is refused, and why.

@@ -8,13 +8,14 @@ use prices::Price;
 use prices::PriceAnswer;
 ghost use Rattle.engine.specs.claims.Calls.{Opens};
 
-pub fn open(close: u32) -> Opened
-    ensures { λ r. ⌜ Opens close (r .answer) (r .words) ⌝ }
+pub fn open(step: u32, close: u32) -> Opened
+    ensures { λ r. ⌜ Opens step close (r .answer) (r .words) ⌝ }
 {
     let mut words = [0u32; words::VENUE];
-    match Price::new(close) {
+    match Price::new(step, close) {
         PriceAnswer::Legal(price) => {
             words[header::CLOSE] = price.value;
+            words[header::STEP] = step;
             words[words::LAYOUT_WORD] = words::LAYOUT;
             Opened {
                 answer: OpenAnswer::Fresh,
@@ -23,6 +24,10 @@ pub fn open(close: u32) -> Opened
         },
         PriceAnswer::NotLegal => Opened {
             answer: OpenAnswer::NotOpened(Refusal::PriceNotLegal),
+            words,
+        },
+        PriceAnswer::NotStep => Opened {
+            answer: OpenAnswer::NotOpened(Refusal::NotStep),
             words,
         },
     }

@@ -13,6 +13,7 @@ ghost use Rattle.engine.specs.declared.Event.the-variants.{Bid as bidEve
 ghost use Rattle.engine.specs.rules.Records.{reportsBytes};
 ghost use Rattle.engine.specs.rules.Venue.{restrictionReport};
 ghost use Rattle.engine.specs.rules.Market.{marketAfter};
+ghost use Rattle.engine.specs.rules.Layout.{venueOf};
 ghost use Rattle.engine.specs.steps.Memory.{MayAccept, Room, effectIn, Accepts};
 ghost use Rattle.engine.specs.steps.Steps.{passIn, PassesAndFinishes};
 
@@ -37,6 +38,7 @@ fn market_after_bid(m: Market, bid: u32) -> Market
         close: m.close,
         phase: m.phase,
         bid,
+        step: m.step,
     }
 }
 
@@ -48,6 +50,7 @@ fn market_after_tape(m: Market, price: u32) -> Market
         close: m.close,
         phase: restriction::phase_after_tape(m.close, m.phase, price),
         bid: m.bid,
+        step: m.step,
     }
 }
 
@@ -64,7 +67,7 @@ fn report_restriction(reports: &mut [u8], before: Market, after: Market) -> usiz
 
 // A new national bid.
 pub(crate) fn new_bid(w: &mut [u32], reports: &mut [u8], bid: u32) -> usize
-    requires { ⌜ MayAccept (now w) × T (isBid bid) × Room (now reports) 0 (effectIn (now w) (bidEvent bid) .reports) ⌝ }
+    requires { ⌜ MayAccept (now w) × T (isBid (venueOf (now w) .market .step) bid) × Room (now reports) 0 (effectIn (now w) (bidEvent bid) .reports) ⌝ }
     ensures { λ r. ⌜ Accepts (now (w .entry)) (now (w .exit)) (now (reports .entry)) (now (reports .exit)) (bidEvent bid) r ⌝ }
 {
     let m = market_after_bid(header::market(w), bid);

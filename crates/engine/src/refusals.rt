@@ -16,5 +16,6 @@ pub fn number_of(refusal: Refusal) -> u32
         Refusal::BookFull => 7,
         Refusal::NotResting => 8,
         Refusal::VenueBroken => 16,
+        Refusal::NotStep => 17,
     }
 }

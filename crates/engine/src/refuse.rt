@@ -11,7 +11,7 @@ ghost use Prim.Native.Nat.{_≤_};
 ghost use mathlib.Core.Bool.{_||_};
 ghost use lib.ListN.{length};
 ghost use Rattle.numbers.specs.Tests.{conj};
-ghost use Rattle.prices.specs.Prices.{legal};
+ghost use Rattle.prices.specs.Prices.{legal, isBid};
 ghost use Rattle.book.specs.rules.Words.{venueWords};
 ghost use Rattle.book.specs.steps.BookSteps.{Book};
 ghost use Rattle.engine.specs.declared.Event.the-variants.{Entry as entry};
@@ -20,6 +20,7 @@ ghost use Rattle.engine.specs.rules.Sound.{headerConditions};
 ghost use Rattle.engine.specs.rules.Refusals.{codesInRange, refusalOfTerms, refusalOfPlace, refusalOfKind};
 ghost use Rattle.engine.specs.rules.Layout.{venueOf, soundWords};
 ghost use Rattle.engine.specs.rules.Answers.{refusedWith};
+ghost use Rattle.engine.specs.steps.Memory.{HasStep};
 
 pub(crate) const MOST_EVENTS: u32 = 16_777_215;
 
@@ -41,21 +42,38 @@ fn codes_in_range(e: Entry) -> bool
     sound::slide_allowed(e.mark, e.slide)
 }
 
+// Whether a number is a bid, and whether it is a legal price, at the step of the venue.
+pub(crate) fn allows_bid(w: &[u32], bid: u32) -> bool
+    requires { ⌜ HasStep (now w) ⌝ }
+    ensures { λ r. ⌜ r ≡ isBid (venueOf (now (w .entry)) .market .step) bid ⌝ }
+{
+    increments::is_bid(words::header_word(w, header::STEP), bid)
+}
+
+pub(crate) fn allows_price(w: &[u32], price: u32) -> bool
+    requires { ⌜ HasStep (now w) ⌝ }
+    ensures { λ r. ⌜ r ≡ legal (venueOf (now (w .entry)) .market .step) price ⌝ }
+{
+    increments::is_legal(words::header_word(w, header::STEP), price)
+}
+
 // Whether an entry may have a price: 0 means market.
-fn price_allowed(price: u32) -> bool
-    ensures { λ r. ⌜ r ≡ (isMarket price || legal price) ⌝ }
+fn price_allowed(w: &[u32], price: u32) -> bool
+    requires { ⌜ HasStep (now w) ⌝ }
+    ensures { λ r. ⌜ r ≡ (isMarket price || legal (venueOf (now (w .entry)) .market .step) price) ⌝ }
 {
     if price == 0 {
         return true;
     }
-    increments::is_legal(price)
+    allows_price(w, price)
 }
 
 // The terms of an entry: price and shares.
-fn terms_refusal(price: u32, shares: u32) -> MayRefuse
-    ensures { λ r. ⌜ refusedWith r ≡ refusalOfTerms price shares ⌝ }
+fn terms_refusal(w: &[u32], price: u32, shares: u32) -> MayRefuse
+    requires { ⌜ HasStep (now w) ⌝ }
+    ensures { λ r. ⌜ refusedWith r ≡ refusalOfTerms (venueOf (now (w .entry)) .market .step) price shares ⌝ }
 {
-    if !price_allowed(price) {
+    if !price_allowed(w, price) {
         return MayRefuse::Refuse(Refusal::PriceNotLegal);
     }
     if shares < 1 {
@@ -82,10 +100,10 @@ fn place_refusal(w: &[u32], id: u32) -> MayRefuse
 }
 
 pub(crate) fn entry_refusal(w: &[u32], e: Entry) -> MayRefuse
-    requires { ⌜ Book (now w) ⌝ }
+    requires { ⌜ HasStep (now w) ⌝ }
     ensures { λ r. ⌜ refusedWith r ≡ refusalOfKind (venueOf (now (w .entry))) (entry e) ⌝ }
 {
-    match terms_refusal(e.price, e.shares) {
+    match terms_refusal(w, e.price, e.shares) {
         MayRefuse::Refuse(refusal) => MayRefuse::Refuse(refusal),
         MayRefuse::Allow => {
             if !codes_in_range(e) {
@@ -100,13 +118,17 @@ fn header_sound(w: &[u32]) -> bool
     requires { ⌜ venueWords ≤ length (now w) ⌝ }
     ensures { λ r. ⌜ r ≡ conj (headerConditions (venueOf (now (w .entry)))) ⌝ }
 {
+    let step = w[header::STEP];
+    if !increments::is_step(step) {
+        return false;
+    }
     if w[header::PHASE] > 2 {
         return false;
     }
-    if !increments::is_legal(w[header::CLOSE]) {
+    if !increments::is_legal(step, w[header::CLOSE]) {
         return false;
     }
-    if !increments::is_bid(w[header::BID]) {
+    if !increments::is_bid(step, w[header::BID]) {
         return false;
     }
     if w[header::ACCEPTED_EVENTS] > MOST_EVENTS {
@@ -125,5 +147,10 @@ pub fn venue_sound(w: &[u32]) -> bool
     if !header_sound(w) {
         return false;
     }
-    sound::is_sound(w, w[header::LAST_ID], w[header::LAST_STAMP])
+    sound::is_sound(
+        w,
+        w[header::STEP],
+        w[header::LAST_ID],
+        w[header::LAST_STAMP],
+    )
 }

@@ -59,7 +59,7 @@ fn slide_once(m: Market, o: Order) -> Move
 
 // Where an order goes that may slide down.
 fn slide_down(m: Market, o: Order) -> Move
-    requires { ⌜ T (isBid (m .bid)) ⌝ }
+    requires { ⌜ T (isBid (m .step) (m .bid)) ⌝ }
     ensures { λ r. ⌜ r ≡ slideDown m o ⌝ }
 {
     if o.slide == 0 {
@@ -100,7 +100,7 @@ fn may_slide(m: Market, o: Order) -> bool
 
 // Where a restricted order goes.
 fn move_of(m: Market, o: Order) -> Move
-    requires { ⌜ T (isBid (m .bid)) ⌝ }
+    requires { ⌜ T (isBid (m .step) (m .bid)) ⌝ }
     ensures { λ r. ⌜ r ≡ moveOf m o ⌝ }
 {
     if must_move(m, o) {
@@ -117,7 +117,7 @@ fn move_of(m: Market, o: Order) -> Move
 
 // Where an order of any mark goes.
 fn move_in_pass(m: Market, o: Order) -> Move
-    requires { ⌜ T (isBid (m .bid)) ⌝ }
+    requires { ⌜ T (isBid (m .step) (m .bid)) ⌝ }
     ensures { λ r. ⌜ r ≡ moveInPass m o ⌝ }
 {
     if working::restricted(m, o.mark) {
@@ -210,7 +210,7 @@ fn turn(
     near: usize,
     stamp: u32,
 ) -> Passed
-    requires { ⌜ Ordered (now w) × T (isBid (m .bid)) × (stamp < 4294967295) × Room (now reports) at (turnOf m id (resting (now w)) stamp .reports) ⌝ }
+    requires { ⌜ Ordered (now w) × T (isBid (m .step) (m .bid)) × (stamp < 4294967295) × Room (now reports) at (turnOf m id (resting (now w)) stamp .reports) ⌝ }
     ensures { λ r. ⌜ DoesEffect (now (w .entry)) (now (w .exit)) (now (reports .entry)) (now (reports .exit)) at (turnOf m id (resting (now (w .entry))) stamp) (r .end) (r .stamp) ⌝ }
 {
     let Position::At(i) = search::find_near(w, id, near) else {
@@ -242,7 +242,7 @@ fn resting_ids(w: &[u32]) -> [u32; 256]
 
 // The pass over the orders then resting; none is restricted while the restriction is off.
 pub(crate) fn pass(w: &mut [u32], reports: &mut [u8], at: usize, m: Market, stamp: u32) -> Passed
-    requires { ⌜ Ordered (now w) × T (isBid (m .bid)) × (stamp + 256 < 4294967296) × Room (now reports) at (passOver m (idsOf (resting (now w))) (resting (now w)) stamp .reports) ⌝ }
+    requires { ⌜ Ordered (now w) × T (isBid (m .step) (m .bid)) × (stamp + 256 < 4294967296) × Room (now reports) at (passOver m (idsOf (resting (now w))) (resting (now w)) stamp .reports) ⌝ }
     ensures { λ r. ⌜ DoesEffect (now (w .entry)) (now (w .exit)) (now (reports .entry)) (now (reports .exit)) at (passOver m (idsOf (resting (now (w .entry)))) (resting (now (w .entry))) stamp) (r .end) (r .stamp) ⌝ }
 {
     if !restriction::restriction_on(m.phase) {

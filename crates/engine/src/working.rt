@@ -10,7 +10,6 @@ use book::place;
 use book::priority;
 use book::trade;
 use book::words;
-use prices::PermittedAnswer;
 use prices::Price;
 use prices::increments;
 use prices::restriction;
@@ -67,13 +66,10 @@ pub(crate) fn restricted(m: Market, mark: u32) -> bool
 
 // The permitted price of the bid in force.
 pub(crate) fn permitted_now(m: Market) -> u32
-    requires { ⌜ T (isBid (m .bid)) ⌝ }
+    requires { ⌜ T (isBid (m .step) (m .bid)) ⌝ }
     ensures { λ r. ⌜ r ≡ permittedNow m ⌝ }
 {
-    match increments::permitted_price(m.bid) {
-        PermittedAnswer::NotBid => 0,
-        PermittedAnswer::Permitted(price) => price.value,
-    }
+    increments::price_above(m.step, m.bid)
 }
 
 // What counts as the limit of an entry.
@@ -116,7 +112,7 @@ fn life_of(m: Market, mark: u32, price: u32, life: u32) -> u32
 
 // The price that an entry works at.
 fn working_price(m: Market, mark: u32, price: u32) -> u32
-    requires { ⌜ T (isBid (m .bid)) ⌝ }
+    requires { ⌜ T (isBid (m .step) (m .bid)) ⌝ }
     ensures { λ r. ⌜ r ≡ workingPrice m mark price ⌝ }
 {
     let limit = limit_of(mark, price);
@@ -128,7 +124,7 @@ fn working_price(m: Market, mark: u32, price: u32) -> u32
 
 // The order of an entry, with its stamp.
 pub(crate) fn order_of(m: Market, stamp: u32, e: Entry) -> Order
-    requires { ⌜ T (isBid (m .bid)) ⌝ }
+    requires { ⌜ T (isBid (m .step) (m .bid)) ⌝ }
     ensures { λ r. ⌜ r ≡ orderOf m stamp e ⌝ }
 {
     let price = working_price(m, e.mark, e.price);

@@ -163,6 +163,18 @@ module _ (step : ℕ) where
       differ : refuses k ≡ gives n → ⊥
       differ e = let z : _≡_ {A = ℕ} 0 1 = cc in omega arith
 
+  -- what depends on it in the same way is refused with the same number
+  pub price-refusal : {A : Type 0} {k : ℕ} (x : A) (n : ℕ) → refuses k ≡ priceOf step n → refuses k ≡ atStep step (pick (legal step n) (gives x) (refuses 3))
+  unfolding atStep
+  price-refusal {A} {k} x n =
+      price-by Same n (λ s t e. absurd (differ e)) (λ s t e. let z : k ≡ 3 = cc in ap refuses z ∙ sym (pick-yes (isStep step) _ _ s ∙ pick-no (legal step n) _ _ t)) (λ s e. let z : k ≡ 17 = cc in ap refuses z ∙ sym (pick-no (isStep step) _ _ s))
+    where
+      Same : Outcome ℕ → Type 0
+      Same o = refuses k ≡ o → refuses k ≡ atStep step (pick (legal step n) (gives x) (refuses 3))
+
+      differ : refuses k ≡ gives n → ⊥
+      differ e = let z : _≡_ {A = ℕ} 0 1 = cc in omega arith
+
   pub legal-positive : (p : ℕ) → T (legal step p) → 1 ≤ p
   legal-positive p t = legal-out p t .low
 

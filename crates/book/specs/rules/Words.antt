@@ -21,7 +21,7 @@ venueWords = headerWords + 256 * orderWidth
 
 -- the number of this layout, and the header word that has it: words that were stored under another layout are no venue
 abbrev pub layoutNumber : ℕ
-layoutNumber = 2
+layoutNumber = 3
 
 abbrev pub layoutWord : ℕ
 layoutWord = 15

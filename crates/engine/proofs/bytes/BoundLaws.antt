@@ -12,7 +12,6 @@ use Rattle.numbers.specs.Answers.{gives}
 use Rattle.numbers.specs.SevenBit.{bytesOfAll}
 use Rattle.numbers.proofs.TestLaws.{by-test, all-map}
 use Rattle.numbers.proofs.ByteLaws.{kind-size}
-use Rattle.prices.specs.Prices.{isBid}
 use Rattle.book.specs.declared.Order.{Order}
 use Rattle.book.specs.rules.Orders.{find, without}
 use Rattle.book.specs.rules.Matching.{Execution, meeting, Matched, matching}
@@ -39,7 +38,8 @@ use Rattle.engine.specs.rules.Records.{reportBytes, reportsBytes}
 use Rattle.engine.specs.claims.RoundTrips.{Word, ReportWords}
 use Rattle.engine.specs.claims.Reached.{ReportsFit}
 use Rattle.engine.proofs.refinement.RefusalLaws.{Allowed, NotRefused, Unless, refusal-known}
-use Rattle.engine.proofs.demand3.SoundLaws.{SoundBook, SoundWork, book-distinct, book-order, RemainderOf, remainder-known, meeting-sound, MoveSound, moveOf-sound, atNewPrice-sound, passOne-sound, SoundVenue, sound-venue, orderOf-sound}
+use Rattle.engine.proofs.demand3.MarketLaws.{HasPermitted}
+use Rattle.engine.proofs.demand3.SoundLaws.{SoundBook, SoundWork, book-distinct, book-order, RemainderOf, remainder-known, meeting-sound, MoveSound, moveOf-sound, atNewPrice-sound, passOne-sound, SoundVenue, sound-venue, market-permits, orderOf-sound}
 use Rattle.engine.proofs.bytes.ReportWordLaws.{reports-words}
 
 -- how many bytes a report of 32-bit numbers takes at most: a kind, and fields of 5 bytes
@@ -94,23 +94,23 @@ oneMore-all : (a : ℕ) (xs : List Execution) → foldl oneMore a xs ≡ a + len
 oneMore-all a [] = omega arith
 oneMore-all a (x ∷ xs) = omega (arith, oneMore-all (a + 1) xs)
 
-module _ {n s : ℕ} where
-  meeting-count : (w o : Order) (os : List Order) → Reached w os (some o) → SoundWork n s w os → let x = meeting w o os in 1 + length (x .orders) + unfilled (x .left) ≤ length os + unfilled w
-  meeting-count w o os r g =
+module _ {g n s : ℕ} where
+  meeting-count : (w o : Order) (os : List Order) → Reached w os (some o) → SoundWork g n s w os → let x = meeting w o os in 1 + length (x .orders) + unfilled (x .left) ≤ length os + unfilled w
+  meeting-count w o os r f =
       let q : ℕ = min (w .shares) (o .shares) in
-      let d : Distinct os = book-distinct (g .book) in
+      let d : Distinct os = book-distinct (f .book) in
       rw (meeting-known w o os) elim (decLe (o .shares) (w .shares)) [
         | yes l ↦ omega (arith, r .2, afterTrade-shorter q (r .0) d (omega arith))
         | no l ↦ omega (arith, r .2, afterTrade-length q (r .0) d)
       ]
 
-  matching-count : (w : Order) (os : List Order) → SoundWork n s w os → let m : Matched = matching w os in length (m .executions) + length (m .orders) + unfilled (m .left) ≤ length os + unfilled w
-  matching-count w os g =
-      let r = matching-keeps oneMore Kept (λ x o l a h k. (meeting-sound (h .0) (k .0), omega (arith, k .1, meeting-count x o l h (k .0)))) w os 0 (g, omega arith) in
+  matching-count : (w : Order) (os : List Order) → SoundWork g n s w os → let m : Matched = matching w os in length (m .executions) + length (m .orders) + unfilled (m .left) ≤ length os + unfilled w
+  matching-count w os f =
+      let r = matching-keeps oneMore Kept (λ x o l a h k. (meeting-sound (h .0) (k .0), omega (arith, k .1, meeting-count x o l h (k .0)))) w os 0 (f, omega arith) in
       omega (arith, r .1, oneMore-all 0 (matching w os .executions))
     where
       Kept : Order → List Order → ℕ → Type 0
-      Kept x l a = SoundWork n s x l × (a + length l + unfilled x ≤ length os + unfilled w)
+      Kept x l a = SoundWork g n s x l × (a + length l + unfilled x ≤ length os + unfilled w)
 
 -- the bytes of reports at most, and 21 more for each order of a book
 abbrev mostWith : List Report → List Order → ℕ
@@ -122,7 +122,7 @@ afterRemainder-most Filled w os h = omega arith
 afterRemainder-most (Cancelled cause) w os h = omega (arith, h .0)
 afterRemainder-most Rests w os h = omega (arith, taken-length (insert-taken w os), h .0)
 
-work-most : {n s : ℕ} (w : Order) (os : List Order) → SoundWork n s w os → let r = work w os in mostWith (r .reports) (r .orders) ≤ 21 * (length os + 1)
+work-most : {g n s : ℕ} (w : Order) (os : List Order) → SoundWork g n s w os → let r = work w os in mostWith (r .reports) (r .orders) ≤ 21 * (length os + 1)
 unfolding work
 work-most w os g =
     let m : Matched = matching w os in
@@ -130,21 +130,21 @@ work-most w os g =
 
 -- the pass
 
-afterMove-most : {n s : ℕ} (x : Move) {o : Order} {os : List Order} → MoveSound x → List·Memᴰ o os → SoundBook n s os → let r = afterMove x o os s in mostWith (r .reports) (r .orders) ≤ 16 + 21 * length os
+afterMove-most : {g n s : ℕ} (x : Move) {o : Order} {os : List Order} → MoveSound g x → List·Memᴰ o os → SoundBook g n s os → let r = afterMove x o os s in mostWith (r .reports) (r .orders) ≤ 16 + 21 * length os
 unfolding afterMove
 afterMove-most Stay h m b = omega arith
 afterMove-most Cancel h m b = omega (arith, taken-length (mem-taken m (book-distinct b)))
-afterMove-most {n} {s} (Reprice p used) {o} {os} h m b =
+afterMove-most {g} {n} {s} (Reprice p used) {o} {os} h m b =
     let w : Order = atNewPrice p (s + 1) used o in
     omega (arith, work-most w (without (o .id) os) (atNewPrice-sound p used h m b), taken-length (mem-taken m (book-distinct b)))
 
-module _ (m : Market) (t : T (isBid (m .bid))) (n : ℕ) where
-  passOne-most : (k : ℕ) (x : Option Order) (os : List Order) (s : ℕ) → Found k os x → SoundBook n s os → let r = passOne m x os s in mostWith (r .reports) (r .orders) ≤ 16 + 21 * length os
+module _ (m : Market) (t : HasPermitted m) (n : ℕ) where
+  passOne-most : (k : ℕ) (x : Option Order) (os : List Order) (s : ℕ) → Found k os x → SoundBook (m .step) n s os → let r = passOne m x os s in mostWith (r .reports) (r .orders) ≤ 16 + 21 * length os
   unfolding passOne
   passOne-most k none os s f b = omega arith
   passOne-most k (some o) os s f b = afterMove-most _ (moveOf-sound m t o (book-order b (f .0) .works .fields)) (f .0) b
 
-  passOver-most : (is : List ℕ) (os : List Order) (s : ℕ) → SoundBook n s os → let r = passOver m is os s in mostWith (r .reports) (r .orders) ≤ 16 * length is + 21 * length os
+  passOver-most : (is : List ℕ) (os : List Order) (s : ℕ) → SoundBook (m .step) n s os → let r = passOver m is os s in mostWith (r .reports) (r .orders) ≤ 16 * length is + 21 * length os
   unfolding passOver
   passOver-most [] os s b = omega arith
   passOver-most (k ∷ is) os s b =
@@ -159,20 +159,20 @@ allCancelled-most [] = refl
 allCancelled-most (o ∷ os) = omega (arith, allCancelled-most os)
 
 module _ (v : Venue) (g : SoundVenue v) where
-  thePass-most : (m : Market) → T (isBid (m .bid)) → mostOf ((thePass m v) .reports) ≤ (16 + 21) * mostOrders
+  thePass-most : (m : Market) → HasPermitted m → SoundBook (m .step) (v .lastId) (v .lastStamp) (v .orders) → mostOf ((thePass m v) .reports) ≤ (16 + 21) * mostOrders
   unfolding thePass
-  thePass-most m t =
-      omega (arith, g .book .few, length-map (v .orders) idOf, passOver-most m t (v .lastId) (map idOf (v .orders)) (v .orders) (v .lastStamp) (g .book))
+  thePass-most m t b =
+      omega (arith, g .book .few, length-map (v .orders) idOf, passOver-most m t (v .lastId) (map idOf (v .orders)) (v .orders) (v .lastStamp) b)
 
   effectOf-most : (e : Event) → Allowed v e → mostOf ((effectOf (marketAfter e (v .market)) v e) .reports) ≤ leastBuffer
   unfolding effectOf entering effectOfEntry orderOf effectOfCancel effectOfDayEnd restrictionReport
   effectOf-most (entry e) f =
       omega (arith, work-most (orderOf (v .market) (v .lastStamp + 1) e) (v .orders) (orderOf-sound v e f g), g .book .few)
   effectOf-most (cancel j) f = omega arith
-  effectOf-most (bid b) f = omega (arith, thePass-most (marketAfter (bid b) (v .market)) f)
+  effectOf-most (bid b) f = omega (arith, thePass-most (marketAfter (bid b) (v .market)) (g .market .step, f) (g .book))
   effectOf-most (tape p) f =
       let m : Market = marketAfter (tape p) (v .market) in
-      let r = thePass-most m (g .market .bid) in
+      let r = thePass-most m (market-permits (g .market)) (g .book) in
       by-test (λ (rs : List Report). mostOf (rs ++ thePass m v .reports) ≤ leastBuffer) _ (λ t. omega arith) (λ t. omega arith)
   effectOf-most (dayEnd c) f =
       omega (arith, most-append (map cancelledAtEnd (v .orders)) (dayEnded (marketAfter (dayEnd c) (v .market) .phase) ∷ []), allCancelled-most (v .orders), g .book .few)

@@ -8,7 +8,7 @@ use lib.Dec.{T}
 use lib.ListN.{length, length-map}
 use Rattle.numbers.specs.Tests.{All}
 use Rattle.numbers.proofs.TestLaws.{by-test, all-map, map-all, all-append}
-use Rattle.prices.specs.Prices.{legal, isBid}
+use Rattle.prices.specs.Prices.{legal}
 use Rattle.prices.proofs.PriceLaws.{legal-out}
 use Rattle.book.specs.declared.Order.{Order}
 use Rattle.book.specs.rules.Orders.{find, restingShares, without}
@@ -33,18 +33,19 @@ use Rattle.engine.specs.rules.Refusals.{rests}
 use Rattle.engine.specs.claims.RoundTrips.{Word, ReportWords}
 use Rattle.engine.proofs.refinement.RefusalLaws.{Allowed, NotRefused}
 use Rattle.book.proofs.definitions.OrderConditionLaws.{MayWork}
-use Rattle.engine.proofs.demand3.SoundLaws.{SoundBook, SoundWork, book-distinct, book-order, RemainderOf, remainder-known, meeting-sound, MoveSound, moveOf-sound, atNewPrice-sound, passOne-sound, SoundVenue, sound-venue, workingPrice-legal, orderOf-sound, marketAfter-sound}
+use Rattle.engine.proofs.demand3.MarketLaws.{HasPermitted}
+use Rattle.engine.proofs.demand3.SoundLaws.{SoundBook, SoundWork, book-distinct, book-order, RemainderOf, remainder-known, meeting-sound, MoveSound, moveOf-sound, atNewPrice-sound, passOne-sound, SoundVenue, sound-venue, market-permits, workingPrice-legal, orderOf-sound, marketAfter-sound}
 
 -- the fields of an order that reports have
 
-legal-word : (p : ℕ) → T (legal p) → Word p
-legal-word p t = omega (arith, legal-out p t .high)
+legal-word : (g p : ℕ) → T (legal g p) → Word p
+legal-word g p t = omega (arith, legal-out g p t .high)
 
 abbrev OrderWords : Order → Type 0
 OrderWords o = record { id : Word (o .id); price : Word (o .price); shares : Word (o .shares) }
 
-order-words : (n s : ℕ) (o : Order) → Word n → MayWork n s o → OrderWords o
-order-words n s o i h = record { id = omega (arith, h .id); price = legal-word (o .price) (h .price); shares = omega (arith, h .most) }
+order-words : (g n s : ℕ) (o : Order) → Word n → MayWork g n s o → OrderWords o
+order-words g n s o i h = record { id = omega (arith, h .id); price = legal-word g (o .price) (h .price); shares = omega (arith, h .most) }
 
 cancelled-words : (o : Order) (cause : ℕ) → OrderWords o → cause ≤ 4 → ReportWords (cancelled (o .id) (o .shares) cause)
 cancelled-words o cause h l = (omega arith, (h .id, (h .shares, (omega arith, tt))))
@@ -58,11 +59,11 @@ onExecution-all : (rs : List Report) (xs : List Execution) → All ReportWords (
 onExecution-all rs [] h = (h, tt)
 onExecution-all rs (x ∷ xs) h = let r = onExecution-all (onExecution rs x) xs h in (r .0 .1, (r .0 .0, r .1))
 
-module _ {n s : ℕ} (i : Word n) where
-  meeting-words : (w o : Order) (os : List Order) → List·Memᴰ o os → SoundWork n s w os → ReportWords (executed ((meeting w o os) .execution))
-  meeting-words w o os m g =
-      let h : OrderWords w = order-words n s w i (g .works) in
-      let k : OrderWords o = order-words n s o i (book-order (g .book) m .works) in
+module _ (g : ℕ) {n s : ℕ} (i : Word n) where
+  meeting-words : (w o : Order) (os : List Order) → List·Memᴰ o os → SoundWork g n s w os → ReportWords (executed ((meeting w o os) .execution))
+  meeting-words w o os m f =
+      let h : OrderWords w = order-words g n s w i (f .works) in
+      let k : OrderWords o = order-words g n s o i (book-order (f .book) m .works) in
       rw (meeting-known w o os)
       (execution-by
       (λ (x : Execution). ReportWords (executed x))
@@ -72,45 +73,45 @@ module _ {n s : ℕ} (i : Word n) where
       (λ t. (omega arith, (h .id, (k .id, (k .price, (omega (arith, h .shares), tt))))))
       (λ t. (omega arith, (k .id, (h .id, (k .price, (omega (arith, h .shares), tt)))))))
 
-  matching-words : (w : Order) (os : List Order) → SoundWork n s w os → let m : Matched = matching w os in SoundWork n s (m .left) (m .orders) × All ReportWords (map executed (m .executions))
-  matching-words w os g =
-      let r = matching-keeps onExecution Kept (λ x o l a h k. (meeting-sound (h .0) (k .0), (meeting-words x o l (h .0) (k .0), k .1))) w os [] (g, tt) in
+  matching-words : (w : Order) (os : List Order) → SoundWork g n s w os → let m : Matched = matching w os in SoundWork g n s (m .left) (m .orders) × All ReportWords (map executed (m .executions))
+  matching-words w os f =
+      let r = matching-keeps onExecution Kept (λ x o l a h k. (meeting-sound (h .0) (k .0), (meeting-words x o l (h .0) (k .0), k .1))) w os [] (f, tt) in
       (r .0, onExecution-all [] (matching w os .executions) (r .1) .1)
     where
       Kept : Order → List Order → List Report → Type 0
-      Kept x l rs = SoundWork n s x l × All ReportWords rs
+      Kept x l rs = SoundWork g n s x l × All ReportWords rs
 
-  afterRemainder-words : (x : Remainder) (w : Order) (os : List Order) → RemainderOf w x → MayWork n s w → All ReportWords ((afterRemainder x w os) .reports)
+  afterRemainder-words : (x : Remainder) (w : Order) (os : List Order) → RemainderOf w x → MayWork g n s w → All ReportWords ((afterRemainder x w os) .reports)
   unfolding afterRemainder
-  afterRemainder-words Filled w os h g = tt
-  afterRemainder-words (Cancelled cause) w os h g = (cancelled-words w cause (order-words n s w i g) (omega (arith, h .1)), tt)
-  afterRemainder-words Rests w os h g = tt
+  afterRemainder-words Filled w os h f = tt
+  afterRemainder-words (Cancelled cause) w os h f = (cancelled-words w cause (order-words g n s w i f) (omega (arith, h .1)), tt)
+  afterRemainder-words Rests w os h f = tt
 
-  work-words : (w : Order) (os : List Order) → SoundWork n s w os → All ReportWords ((work w os) .reports)
+  work-words : (w : Order) (os : List Order) → SoundWork g n s w os → All ReportWords ((work w os) .reports)
   unfolding work
-  work-words w os g =
+  work-words w os f =
       let m : Matched = matching w os in
-      let r = matching-words w os g in
+      let r = matching-words w os f in
       all-append ReportWords (map executed (m .executions)) _ (r .1) (afterRemainder-words (remainder (m .left)) (m .left) (m .orders) (remainder-known (m .left)) (r .0 .works))
 
 -- the pass
 
-afterMove-words : {n s : ℕ} → Word n → Word (s + 1) → (x : Move) {o : Order} {os : List Order} → MoveSound x → List·Memᴰ o os → SoundBook n s os → All ReportWords ((afterMove x o os s) .reports)
+afterMove-words : {g n s : ℕ} → Word n → Word (s + 1) → (x : Move) {o : Order} {os : List Order} → MoveSound g x → List·Memᴰ o os → SoundBook g n s os → All ReportWords ((afterMove x o os s) .reports)
 unfolding afterMove
 afterMove-words i l Stay h m b = tt
-afterMove-words {n} {s} i l Cancel {o} {os} h m b =
-    (cancelled-words o optOut (order-words n s o i (book-order b m .works)) (omega arith), tt)
-afterMove-words {n} {s} i l (Reprice p used) {o} {os} h m b =
-    let k : OrderWords o = order-words n s o i (book-order b m .works) in
-    ((omega arith, (k .id, (legal-word p h, (l, tt)))), work-words i _ (without (o .id) os) (atNewPrice-sound p used h m b))
+afterMove-words {g} {n} {s} i l Cancel {o} {os} h m b =
+    (cancelled-words o optOut (order-words g n s o i (book-order b m .works)) (omega arith), tt)
+afterMove-words {g} {n} {s} i l (Reprice p used) {o} {os} h m b =
+    let k : OrderWords o = order-words g n s o i (book-order b m .works) in
+    ((omega arith, (k .id, (legal-word g p h, (l, tt)))), work-words g i _ (without (o .id) os) (atNewPrice-sound p used h m b))
 
-module _ (m : Market) (t : T (isBid (m .bid))) (n : ℕ) (i : Word n) where
-  passOne-words : (k : ℕ) (x : Option Order) (os : List Order) (s : ℕ) → Word (s + 1) → Found k os x → SoundBook n s os → All ReportWords ((passOne m x os s) .reports)
+module _ (m : Market) (t : HasPermitted m) (n : ℕ) (i : Word n) where
+  passOne-words : (k : ℕ) (x : Option Order) (os : List Order) (s : ℕ) → Word (s + 1) → Found k os x → SoundBook (m .step) n s os → All ReportWords ((passOne m x os s) .reports)
   unfolding passOne
   passOne-words k none os s l f b = tt
   passOne-words k (some o) os s l f b = afterMove-words i l _ (moveOf-sound m t o (book-order b (f .0) .works .fields)) (f .0) b
 
-  passOver-words : (is : List ℕ) (os : List Order) (s : ℕ) → Word (s + length is) → SoundBook n s os → All ReportWords ((passOver m is os s) .reports)
+  passOver-words : (is : List ℕ) (os : List Order) (s : ℕ) → Word (s + length is) → SoundBook (m .step) n s os → All ReportWords ((passOver m is os s) .reports)
   unfolding passOver
   passOver-words [] os s l b = tt
   passOver-words (k ∷ is) os s l b =
@@ -121,33 +122,33 @@ module _ (m : Market) (t : T (isBid (m .bid))) (n : ℕ) (i : Word n) where
 -- events
 
 module _ (v : Venue) (g : SoundVenue v) (l : v.acceptedEvents < mostEvents) (i : Word (v .lastId)) where
-  thePass-words : (m : Market) → T (isBid (m .bid)) → All ReportWords ((thePass m v) .reports)
+  thePass-words : (m : Market) → HasPermitted m → SoundBook (m .step) (v .lastId) (v .lastStamp) (v .orders) → All ReportWords ((thePass m v) .reports)
   unfolding thePass
-  thePass-words m t =
+  thePass-words m t b =
       let few = g .book .few in
       let e = length-map (v .orders) idOf in
-      passOver-words m t (v .lastId) i (map idOf (v .orders)) (v .orders) (v .lastStamp) (omega (arith, g .stamps)) (g .book)
+      passOver-words m t (v .lastId) i (map idOf (v .orders)) (v .orders) (v .lastStamp) (omega (arith, g .stamps)) b
 
   cancel-words : (k : ℕ) (x : Option Order) → Found k (v .orders) x → T (rests x) → All ReportWords ((effectOfCancel v k) .reports)
   unfolding effectOfCancel rests
   cancel-words k none f t = absurd t
   cancel-words k (some o) f t =
-      let h : OrderWords o = order-words (v .lastId) (v .lastStamp) o i (book-order (g .book) (f .0) .works) in
+      let h : OrderWords o = order-words (v.market.step) (v .lastId) (v .lastStamp) o i (book-order (g .book) (f .0) .works) in
       let e : restingShares k (v .orders) ≡ o.shares = subst (λ (j : ℕ). restingShares j (v .orders) ≡ o.shares) (f .1) (shares-found (f .0) (book-distinct (g .book))) in
       ((omega arith, (omega (arith, f .1, h .id), (omega (arith, h .shares), (omega arith, tt)))), tt)
 
   effectOf-words : (e : Event) → Allowed v e → Word (lastIdAfter v e) → All ReportWords ((effectOf (marketAfter e (v .market)) v e) .reports)
   unfolding effectOf entering effectOfEntry orderOf effectOfDayEnd restrictionReport
   effectOf-words (entry e) f k =
-      ((omega arith, (k, (omega (arith, g .stamps), (legal-word _ (workingPrice-legal (v .market) (e .mark) (e .price) (f .terms .limit) (g .market .bid)), tt)))), work-words k _ (v .orders) (orderOf-sound v e f g))
+      ((omega arith, (k, (omega (arith, g .stamps), (legal-word (v.market.step) _ (workingPrice-legal (v .market) (e .mark) (e .price) (f .terms .limit) (market-permits (g .market))), tt)))), work-words (v.market.step) k _ (v .orders) (orderOf-sound v e f g))
   effectOf-words (cancel j) f k = cancel-words j (find j (v .orders)) (find-found j (v .orders)) f
-  effectOf-words (bid b) f k = thePass-words (marketAfter (bid b) (v .market)) f
+  effectOf-words (bid b) f k = thePass-words (marketAfter (bid b) (v .market)) (g .market .step, f) (g .book)
   effectOf-words (tape p) f k =
       let m : Market = marketAfter (tape p) (v .market) in
-      let r = thePass-words m (g .market .bid) in
+      let r = thePass-words m (market-permits (g .market)) (g .book) in
       by-test (λ (rs : List Report). All ReportWords (rs ++ thePass m v .reports)) _ (λ t. r) (λ t. ((omega arith, tt), r))
   effectOf-words (dayEnd c) f k =
-      let h = all-map (λ o h. cancelled-words o endOfDay (order-words (v .lastId) (v .lastStamp) o i (h .works)) (omega arith)) (v .orders) (g .book .orders) in
+      let h = all-map (λ o h. cancelled-words o endOfDay (order-words (v.market.step) (v .lastId) (v .lastStamp) o i (h .works)) (omega arith)) (v .orders) (g .book .orders) in
       all-append ReportWords (map cancelledAtEnd (v .orders)) _ (map-all ReportWords cancelledAtEnd (v .orders) h) ((omega arith, (omega (arith, marketAfter-sound v (dayEnd c) f (g .market) .phase), tt)), tt)
 
 -- the last id doesn't fall

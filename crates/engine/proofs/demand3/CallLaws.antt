@@ -14,7 +14,7 @@ use Rattle.numbers.specs.Answers.{Outcome, gives, refuses}
 use Rattle.numbers.specs.SevenBit.{overwrite, Stands}
 use borrow.Author.Tests.{le-leb}
 use Rattle.numbers.proofs.PlaceLaws.{overwrite-stands}
-use Rattle.prices.specs.Prices.{legal}
+use Rattle.prices.specs.Prices.{isStep, legal}
 use Rattle.book.specs.rules.Words.{isBook}
 use Rattle.engine.specs.declared.Event.{Event}
 use Rattle.engine.specs.declared.Event.the-variants.{Entry as entry, Cancel as cancel, Bid as bid, Tape as tape, DayEnd as dayEnd}
@@ -112,32 +112,32 @@ applied-not-16 {w} {b = b} {e = e} t a z =
     sound-refused (venueOf w) e (length b) 16 (words-sound w t) (counted _ (sym (rw (step-in w e (length b) (words-book w t)) at (a .answers)) ∙ z)) .0 refl
 
 -- from words that mean a fresh venue
-module _ (close : ℕ) (t : T (legal close)) {w₀ : List ℕ} (u : T (isBook w₀)) (f : venueOf w₀ ≡ opened close) where
-  fresh-run : {cs : List AppliedCall} {w : List ℕ} → Chain w₀ cs w → IsRun cs w (run (opened close) (map callOf cs))
+module _ (s close : ℕ) (i : T (isStep s)) (t : T (legal s close)) {w₀ : List ℕ} (u : T (isBook w₀)) (f : venueOf w₀ ≡ opened s close) where
+  fresh-run : {cs : List AppliedCall} {w : List ℕ} → Chain w₀ cs w → IsRun cs w (run (opened s close) (map callOf cs))
   unfolding opened
   fresh-run {cs} {w} c = subst (λ (v : Venue). IsRun cs w (run v (map callOf cs))) f (chain-run u (rw f (omega arith)) c)
 
-  pub demand3-from : (cs : List AppliedCall) (w′ : List ℕ) → Chain w₀ cs w′ → LawfulCalls close cs w′
+  pub demand3-from : (cs : List AppliedCall) (w′ : List ℕ) → Chain w₀ cs w′ → LawfulCalls s close cs w′
   unfolding venueOf
   demand3-from cs w′ c =
       let r = fresh-run c in
-      let n : Run = run (opened close) (map callOf cs) in
+      let n : Run = run (opened s close) (map callOf cs) in
       record {
         read = n .answered;
         readable = r .readable;
-        lawful = rw (ap (λ (v : Venue). v .orders) (r .venue)) (demand3 close (opened close) (opening-gives close t) (map callOf cs));
+        lawful = rw (ap (λ (v : Venue). v .orders) (r .venue)) (demand3 s close (opened s close) (opening-gives s close i t) (map callOf cs));
       }
 
   pub no-16-from : (cs : List AppliedCall) (w : List ℕ) → Chain w₀ cs w → (e : Event) (b : List ℕ) (answer : Outcome ℕ) (w′ b′ : List ℕ) → Applied w e b answer w′ b′ → answer ≡ refuses 16 → ⊥
   no-16-from cs w c e b answer w′ b′ a z =
       let r = fresh-run c in
-      reached-is-sound close (opened close) (opening-gives close t) (map callOf cs) e (length b) (counted _ (sym (rw (step-in w e (length b) (r .layout), r .venue) at (a .answers)) ∙ z))
+      reached-is-sound s close (opened s close) (opening-gives s close i t) (map callOf cs) e (length b) (counted _ (sym (rw (step-in w e (length b) (r .layout), r .venue) at (a .answers)) ∙ z))
 
 pub demand3-of-calls : Demand3OfCalls
-demand3-of-calls close t = demand3-from close t (opened-book close t) (opened-venue close t)
+demand3-of-calls s close i t = demand3-from s close i t (opened-book s close i t) (opened-venue s close i t)
 
 pub no-call-gets-16 : NoCallGets16
-no-call-gets-16 close t = no-16-from close t (opened-book close t) (opened-venue close t)
+no-call-gets-16 s close i t = no-16-from s close i t (opened-book s close i t) (opened-venue s close i t)
 
 -- equal events
 
@@ -198,4 +198,4 @@ both {w} {v} t e (more {c = c} x a cs) (more {c = d} y b ds) q h k =
     record { answers = cc (r .answers); reports = cc (r .reports); venue = r .venue }
 
 pub equal-reports : EqualReports
-equal-reports close cs ds w v c d = both refl refl c d
+equal-reports s close cs ds w v c d = both refl refl c d

@@ -85,5 +85,5 @@ agrees-lawful v a h =
         go (inr y) = inr (k .show ∙ y .0, k .clear (y .1))
 
 pub demand3 : Demand3
-demand3 close v e cs =
-    rw (opening-known close v e .fresh) (agrees-lawful _ _ (run-keeps cs (opened close) (freshAccount close) (opened-agrees close)))
+demand3 s close v e cs =
+    rw (opening-known s close v e .fresh) (agrees-lawful _ _ (run-keeps cs (opened s close) (freshAccount s close) (opened-agrees s close)))

@@ -9,6 +9,7 @@ use mathlib.Core.List.{List, [], _∷_, _++_, map, foldl}
 use lib.Dec.{T, T-not}
 use Rattle.numbers.specs.Tests.{All}
 use Rattle.numbers.proofs.TestLaws.{by-test, tests, all-map, all-both}
+use Rattle.prices.specs.Prices.{isStep}
 use Rattle.book.specs.declared.Order.{Order}
 use Rattle.book.specs.rules.Orders.{ifSame, restingShares}
 use Rattle.book.proofs.definitions.ShareLaws.{ifSame-same, ifSame-other}
@@ -24,7 +25,7 @@ use Rattle.engine.specs.rules.Venue.{Venue, opened, entering, effectOfEn
 use Rattle.engine.specs.rules.Refusals.{refusal}
 use Rattle.engine.specs.rules.Run.{stepUnless, step, Call, run}
 use Rattle.engine.specs.claims.Account.{Tallies, givePrice, startTally, talliesAfter, readReport, Account, freshAccount, accountAfter, accountFrom}
-use Rattle.engine.proofs.refinement.RefusalLaws.{Allowed, NotRefused, Unless, refusal-known}
+use Rattle.engine.proofs.refinement.RefusalLaws.{sound-step, Allowed, NotRefused, Unless, refusal-known}
 use Rattle.engine.proofs.demand3.MarketLaws.{permittedNow-above}
 use Rattle.engine.proofs.demand3.Invariant.{TalliesKnow, TalliesAgree, without-uncrossed, SafelyPriced, BookAgrees, WhileWorking, EffectAgrees, AccountAgrees}
 use Rattle.engine.proofs.demand3.TallyLaws.{setAt-same, setAt-other, givePrice-others, givePrice-own, agree-cancelled}
@@ -33,10 +34,10 @@ use Rattle.engine.proofs.demand3.PassKeeps.{thePass-keeps}
 
 -- an entry
 
-workingPrice-above : (m : Market) (mark price : ℕ) → T (restricted m mark) → m.bid < workingPrice m mark price
+workingPrice-above : (m : Market) → T (isStep (m .step)) → (mark price : ℕ) → T (restricted m mark) → m.bid < workingPrice m mark price
 unfolding workingPrice
-workingPrice-above m mark price t =
-    by-test (λ (x : ℕ). m.bid < x) _ (λ s. omega (arith, permittedNow-above m)) (λ s. absurd (T-not (restricted m mark) s t))
+workingPrice-above m is mark price t =
+    by-test (λ (x : ℕ). m.bid < x) _ (λ s. omega (arith, permittedNow-above m is)) (λ s. absurd (T-not (restricted m mark) s t))
 
 module _ (n : ℕ) (os : List Order) (c : Tallies) (e : Entry) (new : n < e.id) (h : TalliesAgree n os c) where
   abbrev started : Tallies
@@ -68,14 +69,14 @@ module _ (n : ℕ) (os : List Order) (c : Tallies) (e : Entry) (new : n < e.id) 
         executions = h.executions;
       }
 
-entry-keeps : (m : Market) (v : Venue) (c : Tallies) (e : Entry) → v.lastId < e.id → BookAgrees (v .lastId) (v .orders) c → All (SafelyPriced m) (v .orders) → EffectAgrees m (e .id) (effectOfEntry m v e) (startTally e c)
+entry-keeps : (m : Market) → T (isStep (m .step)) → (v : Venue) (c : Tallies) (e : Entry) → v.lastId < e.id → BookAgrees (v .lastId) (v .orders) c → All (SafelyPriced m) (v .orders) → EffectAgrees m (e .id) (effectOfEntry m v e) (startTally e c)
 unfolding entering effectOfEntry orderOf
-entry-keeps m v c e new h s =
+entry-keeps m is v c e new h s =
     let i : WhileWorking m (e .id) (orderOf m (v .lastStamp + 1) e) (v .orders) (givePrice (m .bid) (e .id) (workingPrice m (e .mark) (e .price)) (startTally e c)) = record {
       tallies = entered-agree (v .lastId) (v .orders) c e new (h .tallies) m (v .lastStamp + 1);
       uncrossed = h.uncrossed;
       working = refl;
-      above = workingPrice-above m (e .mark) (e .price);
+      above = workingPrice-above m is (e .mark) (e .price);
       safe = λ z. s;
     } in
     (work-keeps m (e .id) _ (v .orders) _ i, work-all (SafelyPriced m) (λ z q k. k) _ (v .orders) (h .tallies .distinct) (λ r. inl (i .above r)) s)
@@ -98,10 +99,10 @@ cancel-keeps m n v c i h s = (
   without-all (SafelyPriced m) i (v .orders) s,
 )
 
-tape-keeps : (m : Market) (n : ℕ) (v : Venue) (c : Tallies) → BookAgrees n (v .orders) c → EffectAgrees m n (effectOfTape m v) c
+tape-keeps : (m : Market) → T (isStep (m .step)) → (n : ℕ) (v : Venue) (c : Tallies) → BookAgrees n (v .orders) c → EffectAgrees m n (effectOfTape m v) c
 unfolding restrictionReport
-tape-keeps m n v c h =
-    by-test (λ (rs : List Report). EffectAgrees m n (record { reports = rs ++ (thePass m v) .reports; orders = (thePass m v) .orders; stamp = (thePass m v) .stamp }) c) _ (λ t. thePass-keeps m n v c h) (λ t. thePass-keeps m n v c h)
+tape-keeps m is n v c h =
+    by-test (λ (rs : List Report). EffectAgrees m n (record { reports = rs ++ (thePass m v) .reports; orders = (thePass m v) .orders; stamp = (thePass m v) .stamp }) c) _ (λ t. thePass-keeps m is n v c h) (λ t. thePass-keeps m is n v c h)
 
 allCancelled-agree : (m : Market) (n p : ℕ) (os : List Order) (c : Tallies) → TalliesAgree n os c → TalliesAgree n [] (foldl (readReport m) c (map (λ (o : Order). cancelled (o .id) (o .shares) endOfDay) os ++ dayEnded p ∷ []))
 allCancelled-agree m n p [] c h = h
@@ -111,13 +112,13 @@ dayEnd-keeps : (m : Market) (n : ℕ) (v : Venue) (c : Tallies) → BookAgrees n
 unfolding effectOfDayEnd
 dayEnd-keeps m n v c h = (record { tallies = allCancelled-agree m n _ (v .orders) c (h .tallies); uncrossed = record { border = 0; separated = tt } }, tt)
 
-effect-keeps : (v : Venue) (c : Tallies) (e : Event) → Allowed v e → BookAgrees (v .lastId) (v .orders) c → All (SafelyPriced (v .market)) (v .orders) → let m : Market = marketAfter e (v .market) in EffectAgrees m (lastIdAfter v e) (effectOf m v e) (talliesAfter e c)
+effect-keeps : (v : Venue) → T (isStep (v.market.step)) → (c : Tallies) (e : Event) → Allowed v e → BookAgrees (v .lastId) (v .orders) c → All (SafelyPriced (v .market)) (v .orders) → let m : Market = marketAfter e (v .market) in EffectAgrees m (lastIdAfter v e) (effectOf m v e) (talliesAfter e c)
 unfolding effectOf
-effect-keeps v c (entry e) a h s = entry-keeps (v .market) v c e (a .place .newId) h s
-effect-keeps v c (cancel i) a h s = cancel-keeps (v .market) (v .lastId) v c i h s
-effect-keeps v c (bid b) a h s = thePass-keeps _ (v .lastId) v c h
-effect-keeps v c (tape p) a h s = tape-keeps _ (v .lastId) v c h
-effect-keeps v c (dayEnd x) a h s = dayEnd-keeps _ (v .lastId) v c h
+effect-keeps v is c (entry e) a h s = entry-keeps (v .market) is v c e (a .place .newId) h s
+effect-keeps v is c (cancel i) a h s = cancel-keeps (v .market) (v .lastId) v c i h s
+effect-keeps v is c (bid b) a h s = thePass-keeps _ is (v .lastId) v c h
+effect-keeps v is c (tape p) a h s = tape-keeps _ is (v .lastId) v c h
+effect-keeps v is c (dayEnd x) a h s = dayEnd-keeps _ (v .lastId) v c h
 
 -- any event, and every run
 
@@ -125,7 +126,7 @@ stepUnless-keeps : (x : Option ℕ) (v : Venue) (a : Account) (e : Event) (n : �
 unfolding stepUnless
 stepUnless-keeps (some k) v a e n u h = h
 stepUnless-keeps none v a e n u h =
-    let r = effect-keeps v (a .tallies) e (u .allowed) (h .book) (h .safe) in
+    let r = effect-keeps v (sound-step v (u .sound)) (a .tallies) e (u .allowed) (h .book) (h .safe) in
     record { market = ap (marketAfter e) (h .market); book = rw (h .market) (r .0); safe = r .1 }
 
 step-keeps : (v : Venue) (a : Account) (e : Event) (n : ℕ) → AccountAgrees v a → AccountAgrees ((step v e n) .venue) (accountAfter a e ((step v e n) .answer))
@@ -137,9 +138,9 @@ unfolding run
 run-keeps [] v a h = h
 run-keeps (c ∷ cs) v a h = run-keeps cs _ _ (step-keeps v a (c .event) (c .buffer) h)
 
-pub opened-agrees : (close : ℕ) → AccountAgrees (opened close) (freshAccount close)
+pub opened-agrees : (s close : ℕ) → AccountAgrees (opened s close) (freshAccount s close)
 unfolding opened
-opened-agrees close =
+opened-agrees s close =
     record {
       market = refl;
       book = record { tallies = record { known = tt; distinct = tt; shares = λ k. omega (arith, shares-empty k); executions = tt }; uncrossed = record { border = 0; separated = tt } };

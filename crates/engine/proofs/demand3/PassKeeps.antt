@@ -8,6 +8,7 @@ use mathlib.Core.Option.{Option, none, some}
 use mathlib.Core.List.{List, [], _∷_, map, foldl, foldl-append, List·Memᴰ, List·Memᴰ·head, List·Memᴰ·tail, List·Memᴰ·cases-cons, List·Memᴰ·not-nil}
 use lib.Dec.{T, leb, ltb, eqb, leb→le, eqb→eq, T-not}
 use Rattle.numbers.specs.Tests.{pick, All}
+use Rattle.prices.specs.Prices.{isStep}
 use Rattle.numbers.proofs.TestLaws.{by-test, and-T, nand-T, notnot-T, tests, all-map, all-both}
 use Rattle.book.specs.declared.Order.{Order}
 use Rattle.book.specs.rules.Orders.{find, without}
@@ -33,7 +34,7 @@ module _ (m : Market) (o : Order) where
   MovesLawfully Cancel = Unit {0}
   MovesLawfully (Reprice p used) = (m.bid < p) × T (restricted m (o .mark))
 
-  module _ (r : T (restricted m (o .mark))) where
+  module _ (k : T (isStep (m .step))) (r : T (restricted m (o .mark))) where
     moveDown-lawful : (t : ℕ) (used : Bool) → m.bid < t → AboveOrClear m o → MovesLawfully (moveDown t used o)
     unfolding moveDown
     moveDown-lawful t used l h = by-test MovesLawfully _ (λ s. (l, r)) (λ s p. h)
@@ -47,7 +48,7 @@ module _ (m : Market) (o : Order) where
     slideDown-lawful : AboveOrClear m o → MovesLawfully (slideDown m o)
     unfolding slideDown
     slideDown-lawful h =
-        by-test MovesLawfully _ (λ s. moveDown-lawful _ _ (omega (arith, permittedNow-above m)) h) (λ s. by-test MovesLawfully _ (λ t. slideOnce-lawful h) (λ t p. h))
+        by-test MovesLawfully _ (λ s. moveDown-lawful _ _ (omega (arith, permittedNow-above m k)) h) (λ s. by-test MovesLawfully _ (λ t. slideOnce-lawful h) (λ t p. h))
 
     moveOf-lawful : MovesLawfully (moveOf m o)
     unfolding moveOf displayedClear
@@ -55,17 +56,17 @@ module _ (m : Market) (o : Order) where
         by-test
         MovesLawfully
         _
-        (λ s. by-test MovesLawfully _ (λ t. tt) (λ t. (permittedNow-above m, r)))
+        (λ s. by-test MovesLawfully _ (λ t. tt) (λ t. (permittedNow-above m k, r)))
         (λ s. let h : AboveOrClear m o = above (nand-T (leb (o .price) (m .bid)) (not (eqb (o .show) 1 && o .clear)) s) in by-test MovesLawfully _ (λ t. slideDown-lawful h) (λ t p. h))
       where
         above : T (not (leb (o .price) (m .bid))) ⊎ T (not (not (eqb (o .show) 1 && o .clear))) → AboveOrClear m o
         above (inl x) = inl (omega tests)
         above (inr x) = let y = and-T (eqb (o .show) 1) (o .clear) (notnot-T (eqb (o .show) 1 && o .clear) x) in inr (eqb→eq (o .show) 1 (y .0), y .1)
 
-  turn-lawful : MovesLawfully (pick (restricted m (o .mark)) (moveOf m o) Stay)
-  turn-lawful = by-test MovesLawfully _ moveOf-lawful (λ t p. absurd (T-not (restricted m (o .mark)) t p))
+  turn-lawful : T (isStep (m .step)) → MovesLawfully (pick (restricted m (o .mark)) (moveOf m o) Stay)
+  turn-lawful k = by-test MovesLawfully _ (moveOf-lawful k) (λ t p. absurd (T-not (restricted m (o .mark)) t p))
 
-module _ (m : Market) (n : ℕ) where
+module _ (m : Market) (k : T (isStep (m .step))) (n : ℕ) where
   -- an order of the book moves
 
   module _ (o : Order) (os : List Order) (c : Tallies) (e : List·Memᴰ o os) (i : BookAgrees n os c) where
@@ -100,7 +101,7 @@ module _ (m : Market) (n : ℕ) where
   passOne-keeps : (i : ℕ) (x : Option Order) (os : List Order) (s : ℕ) (c : Tallies) → Found i os x → BookAgrees n os c → BookAgrees n ((passOne m x os s) .orders) (foldl (readReport m) c ((passOne m x os s) .reports))
   unfolding passOne
   passOne-keeps i none os s c f h = h
-  passOne-keeps i (some o) os s c f h = afterMove-keeps o os c (f .0) h _ s (turn-lawful m o)
+  passOne-keeps i (some o) os s c f h = afterMove-keeps o os c (f .0) h _ s (turn-lawful m o k)
 
   -- the orders whose turn has been are safely priced
 
@@ -132,7 +133,7 @@ module _ (m : Market) (n : ℕ) where
   passOne-safe : (i : ℕ) (x : Option Order) (is : List ℕ) (os : List Order) (s : ℕ) → Found i os x → Distinct os → All (WaitsOrSafe (i ∷ is)) os → All (WaitsOrSafe is) ((passOne m x os s) .orders)
   unfolding passOne
   passOne-safe i none is os s f d t = all-both (others-wait i is) os t f
-  passOne-safe i (some o) is os s f d t = afterMove-safe _ o is os s (turn-lawful m o) (f .0) d (subst (λ (z : ℕ). All (WaitsOrSafe (z ∷ is)) os) (sym (f .1)) t)
+  passOne-safe i (some o) is os s f d t = afterMove-safe _ o is os s (turn-lawful m o k) (f .0) d (subst (λ (z : ℕ). All (WaitsOrSafe (z ∷ is)) os) (sym (f .1)) t)
 
   -- the whole pass
 

@@ -7,7 +7,7 @@ use mathlib.Core.Option.{Option, none, some}
 use mathlib.Core.List.{List, [], _∷_}
 use lib.Dec.{T, T-not}
 use Rattle.numbers.specs.Answers.{refuses, gives}
-use Rattle.prices.specs.Prices.{legal}
+use Rattle.prices.specs.Prices.{isStep, legal}
 use Rattle.engine.specs.declared.Entry.{Entry}
 use Rattle.engine.specs.declared.Event.{Event}
 use Rattle.engine.specs.declared.Event.the-variants.{Entry as entry, Cancel as cancel, Bid as bid, Tape as tape, DayEnd as dayEnd}
@@ -38,18 +38,20 @@ unfolding run step
 run-sound [] v g = g
 run-sound (c ∷ cs) v g = run-sound cs _ (stepUnless-sound _ v (c .event) (c .buffer) (refusal-known v (c .event) (c .buffer)) g)
 
-opened-sound : (close : ℕ) → T (legal close) → SoundVenue (opened close)
+opened-sound : (s close : ℕ) → T (isStep s) → T (legal s close) → SoundVenue (opened s close)
 unfolding opened
-opened-sound close t =
+opened-sound s close i t =
     record {
       book = record { few = omega arith; rises = tt; orders = tt; stamps = tt };
-      market = record { phase = omega arith; close = t; bid = no-bid };
+      market = record { step = i; phase = omega arith; close = t; bid = no-bid s };
       events = omega arith;
       stamps = omega arith;
     }
 
-pub reached-sound : (close : ℕ) (v : Venue) → opening close ≡ gives v → (cs : List Call) → SoundVenue ((run v cs) .venue)
-reached-sound close v e cs = let o = opening-known close v e in rw (o .fresh) (run-sound cs (opened close) (opened-sound close (o .legal)))
+pub reached-sound : (s close : ℕ) (v : Venue) → opening s close ≡ gives v → (cs : List Call) → SoundVenue ((run v cs) .venue)
+reached-sound s close v e cs =
+    let o = opening-known s close v e in
+    rw (o .fresh) (run-sound cs (opened s close) (opened-sound s close (o .is) (o .legal)))
 
 -- refusal 16 is given only where a condition is broken; every other is a number from 1 on, of one byte
 
@@ -98,7 +100,7 @@ unfolding step
 sound-refused v e buffer n s = answer-not _ v e n (refusal-not v e buffer s)
 
 pub reached-is-sound : ReachedIsSound
-reached-is-sound close v o cs e buffer z = sound-refused _ e buffer 16 (venue-sound _ (reached-sound close v o cs)) z .0 refl
+reached-is-sound s close v o cs e buffer z = sound-refused _ e buffer 16 (venue-sound _ (reached-sound s close v o cs)) z .0 refl
 
 pub stamps-bounded : StampsBounded
-stamps-bounded close v o cs = reached-sound close v o cs .stamps
+stamps-bounded s close v o cs = reached-sound s close v o cs .stamps

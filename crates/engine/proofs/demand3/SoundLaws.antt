@@ -9,7 +9,7 @@ use lib.Dec.{T, leb→le, le→leb, eqb→eq, T-not}
 use lib.ListN.{length, length-map}
 use Rattle.numbers.specs.Tests.{pick, All}
 use Rattle.numbers.proofs.TestLaws.{by-test, and-T, Each, conj-T, T-conj, every-T, T-every, neqb, tests, all-map}
-use Rattle.prices.specs.Prices.{legal, isBid}
+use Rattle.prices.specs.Prices.{isStep, legal, isBid}
 use Rattle.prices.proofs.RestrictionLaws.{tape-phase, day-end-phase}
 use Rattle.prices.proofs.PriceLaws.{no-bid, max-legal, permitted-legal, max-bid-legal}
 use Rattle.book.specs.declared.Order.{Order}
@@ -37,51 +37,51 @@ use Rattle.engine.specs.rules.Sound.{mostOrders, mostEvents, venueCondit
 use Rattle.engine.specs.rules.Refusals.{entryCodes, codesInRange}
 use Rattle.book.proofs.definitions.OrderConditionLaws.{FieldsSound, MayWork, MayRest, market-allowed, mayWork-reduced, mayRest-later, order-mayRest, mayRest-order}
 use Rattle.engine.proofs.refinement.RefusalLaws.{Allowed}
-use Rattle.engine.proofs.demand3.MarketLaws.{restricted-mark}
+use Rattle.engine.proofs.demand3.MarketLaws.{restricted-mark, HasPermitted}
 
--- the book
+-- the book; g is the step, n the last id and s the last stamp
 
-pub record SoundBook (n s : ℕ) (os : List Order) : Type 0 where
+pub record SoundBook (g n s : ℕ) (os : List Order) : Type 0 where
   pub few : length os ≤ mostOrders
   pub rises : Rises 0 os
-  pub orders : All (MayRest n s) os
+  pub orders : All (MayRest g n s) os
   pub stamps : Differ stampOf os
 
 -- an order works, and the book has room for it
-pub record SoundWork (n s : ℕ) (w : Order) (os : List Order) : Type 0 where
-  pub book : SoundBook n s os
+pub record SoundWork (g n s : ℕ) (w : Order) (os : List Order) : Type 0 where
+  pub book : SoundBook g n s os
   pub room : length os < mostOrders
-  pub works : MayWork n s w
+  pub works : MayWork g n s w
   pub newStamp : All (λ (x : Order). x.stamp ≡ w.stamp → ⊥) os
   pub newId : All (Other (w .id)) os
   pub positive : 0 < w.id
 
-module _ {n s : ℕ} {os : List Order} (b : SoundBook n s os) where
+module _ {g n s : ℕ} {os : List Order} (b : SoundBook g n s os) where
   pub book-distinct : Distinct os
   book-distinct = rises-distinct 0 os (b .rises)
 
-  pub book-order : {o : Order} → List·Memᴰ o os → MayRest n s o
-  book-order m = taken-all (MayRest n s) (mem-taken m book-distinct) (b .orders) .0
+  pub book-order : {o : Order} → List·Memᴰ o os → MayRest g n s o
+  book-order m = taken-all (MayRest g n s) (mem-taken m book-distinct) (b .orders) .0
 
-  book-later : (m r : ℕ) → n ≤ m → s ≤ r → SoundBook m r os
-  book-later m r l k = record { few = b .few; rises = b .rises; orders = all-map (mayRest-later n s m r l k) os (b .orders); stamps = b .stamps }
+  book-later : (m r : ℕ) → n ≤ m → s ≤ r → SoundBook g m r os
+  book-later m r l k = record { few = b .few; rises = b .rises; orders = all-map (mayRest-later g n s m r l k) os (b .orders); stamps = b .stamps }
 
-  book-without : (i : ℕ) → SoundBook n s (without i os)
+  book-without : (i : ℕ) → SoundBook g n s (without i os)
   book-without i =
       record {
         few = omega (arith, without-length i os, b .few);
         rises = rises-without 0 i os (b .rises);
-        orders = without-all (MayRest n s) i os (b .orders);
+        orders = without-all (MayRest g n s) i os (b .orders);
         stamps = without-differ stampOf i os (b .stamps);
       }
 
-  book-afterTrade : {o : Order} (q : ℕ) → List·Memᴰ o os → SoundBook n s (afterTrade o q os)
+  book-afterTrade : {o : Order} (q : ℕ) → List·Memᴰ o os → SoundBook g n s (afterTrade o q os)
   book-afterTrade {o} q m =
       let d : Distinct os = book-distinct in
       record {
         few = omega (arith, afterTrade-length q m d, b .few);
         rises = rises-afterTrade 0 o q os m (b .rises);
-        orders = afterTrade-all q m d (MayRest n s) (λ z k l h. record { works = mayWork-reduced n s k z (h .works); least = omega arith; day = h .day }) (b .orders);
+        orders = afterTrade-all q m d (MayRest g n s) (λ z k l h. record { works = mayWork-reduced g n s k z (h .works); least = omega arith; day = h .day }) (b .orders);
         stamps = afterTrade-differ q m d stampOf refl (b .stamps);
       }
 
@@ -102,86 +102,88 @@ remainder-known w =
     (λ t. eqb→eq (w .shares) 0 t)
     (λ t. by-test (RemainderOf w) _ (λ r. (omega tests, omega arith)) (λ r. by-test (RemainderOf w) _ (λ x. (omega tests, omega arith)) (λ x. (omega tests, neqb (w .life) 1 r))))
 
-module _ {n s : ℕ} {w : Order} {os : List Order} where
-  pub meeting-sound : {o : Order} → List·Memᴰ o os → SoundWork n s w os → SoundWork n s ((meeting w o os) .left) ((meeting w o os) .orders)
-  meeting-sound {o} m g =
+module _ {g n s : ℕ} {w : Order} {os : List Order} where
+  pub meeting-sound : {o : Order} → List·Memᴰ o os → SoundWork g n s w os → SoundWork g n s ((meeting w o os) .left) ((meeting w o os) .orders)
+  meeting-sound {o} m k =
       let q : ℕ = min (w .shares) (o .shares) in
-      let d : Distinct os = book-distinct (g .book) in
+      let d : Distinct os = book-distinct (k .book) in
       rw (meeting-known w o os) record {
-        book = book-afterTrade (g .book) q m;
-        room = omega (arith, afterTrade-length q m d, g .room);
-        works = mayWork-reduced n s q w (g .works);
-        newStamp = afterTrade-all q m d (λ (x : Order). x.stamp ≡ w.stamp → ⊥) (λ z k l h. h) (g .newStamp);
-        newId = afterTrade-all q m d (Other (w .id)) (λ z k l h. h) (g .newId);
-        positive = g .positive;
+        book = book-afterTrade (k .book) q m;
+        room = omega (arith, afterTrade-length q m d, k .room);
+        works = mayWork-reduced g n s q w (k .works);
+        newStamp = afterTrade-all q m d (λ (x : Order). x.stamp ≡ w.stamp → ⊥) (λ z j l h. h) (k .newStamp);
+        newId = afterTrade-all q m d (Other (w .id)) (λ z j l h. h) (k .newId);
+        positive = k .positive;
       }
 
-  afterRemainder-sound : (x : Remainder) → RemainderOf w x → SoundWork n s w os → SoundBook n s ((afterRemainder x w os) .orders)
+  afterRemainder-sound : (x : Remainder) → RemainderOf w x → SoundWork g n s w os → SoundBook g n s ((afterRemainder x w os) .orders)
   unfolding afterRemainder
-  afterRemainder-sound Filled h g = g .book
-  afterRemainder-sound (Cancelled cause) h g = g .book
-  afterRemainder-sound Rests h g =
+  afterRemainder-sound Filled h k = k .book
+  afterRemainder-sound (Cancelled cause) h k = k .book
+  afterRemainder-sound Rests h k =
       let t = insert-taken w os in
       record {
-        few = omega (arith, g .room, taken-length t);
-        rises = rises-insert 0 w os (g .positive) (g .newId) (g .book .rises);
-        orders = all-taken (MayRest n s) t (record { works = g .works; least = h .0; day = omega (arith, h .1, g .works .fields .life) }) (g .book .orders);
-        stamps = differ-taken stampOf t (g .newStamp) (g .book .stamps);
+        few = omega (arith, k .room, taken-length t);
+        rises = rises-insert 0 w os (k .positive) (k .newId) (k .book .rises);
+        orders = all-taken (MayRest g n s) t (record { works = k .works; least = h .0; day = omega (arith, h .1, k .works .fields .life) }) (k .book .orders);
+        stamps = differ-taken stampOf t (k .newStamp) (k .book .stamps);
       }
 
-pub work-sound : {n s : ℕ} (w : Order) (os : List Order) → SoundWork n s w os → SoundBook n s ((work w os) .orders)
+pub work-sound : {g n s : ℕ} (w : Order) (os : List Order) → SoundWork g n s w os → SoundBook g n s ((work w os) .orders)
 unfolding work
-work-sound {n} {s} w os g =
+work-sound {g} {n} {s} w os h =
     let m : Matched = matching w os in
-    afterRemainder-sound (remainder (m .left)) (remainder-known (m .left)) (matching-keeps unread (λ x l a. SoundWork n s x l) (λ x o l a r h. meeting-sound (r .0) h) w os tt g)
+    afterRemainder-sound (remainder (m .left)) (remainder-known (m .left)) (matching-keeps unread (λ x l a. SoundWork g n s x l) (λ x o l a r k. meeting-sound (r .0) k) w os tt h)
 
 -- where the pass sends an order
 
 -- a new price is legal
-abbrev pub MoveSound : Move → Type 0
-MoveSound Stay = Unit {0}
-MoveSound Cancel = Unit {0}
-MoveSound (Reprice p used) = T (legal p)
+abbrev pub MoveSound : ℕ → Move → Type 0
+MoveSound g Stay = Unit {0}
+MoveSound g Cancel = Unit {0}
+MoveSound g (Reprice p used) = T (legal g p)
 
 -- the larger of a legal price and a bid
-permittedNow-legal : (m : Market) → T (isBid (m .bid)) → T (legal (permittedNow m))
+permittedNow-legal : (m : Market) → HasPermitted m → T (legal (m .step) (permittedNow m))
 unfolding permittedNow
-permittedNow-legal m t = permitted-legal (m .bid) t
+permittedNow-legal m t = permitted-legal (m .step) (t .0) (m .bid) (t .1)
 
-moveDown-sound : (t : ℕ) (used : Bool) (o : Order) → T (legal t) → MoveSound (moveDown t used o)
+moveDown-sound : (g t : ℕ) (used : Bool) (o : Order) → T (legal g t) → MoveSound g (moveDown t used o)
 unfolding moveDown
-moveDown-sound t used o h = by-test MoveSound _ (λ x. h) (λ x. tt)
+moveDown-sound g t used o h = by-test (MoveSound g) _ (λ x. h) (λ x. tt)
 
-slideDown-sound : (m : Market) → T (isBid (m .bid)) → (o : Order) → FieldsSound o → MoveSound (slideDown m o)
+slideDown-sound : (m : Market) → HasPermitted m → (o : Order) → FieldsSound (m .step) o → MoveSound (m .step) (slideDown m o)
 unfolding slideDown slideOnce
 slideDown-sound m t o h =
+    let Sound : Move → Type 0 = MoveSound (m .step) in
     by-test
-    MoveSound
+    Sound
     _
-    (λ x. moveDown-sound _ (o .used) o (max-legal (o .limit) (permittedNow m) (h .limit) (permittedNow-legal m t)))
-    (λ x. by-test MoveSound _ (λ y. by-test MoveSound _ (λ z. moveDown-sound _ true o (max-bid-legal (o .limit) (o .«entry_bid») (h .limit) (h .entryBid))) (λ z. tt)) (λ y. tt))
+    (λ x. moveDown-sound (m .step) _ (o .used) o (max-legal (m .step) (o .limit) (permittedNow m) (h .limit) (permittedNow-legal m t)))
+    (λ x. by-test Sound _ (λ y. by-test Sound _ (λ z. moveDown-sound (m .step) _ true o (max-bid-legal (m .step) (o .limit) (o .«entry_bid») (h .limit) (h .entryBid))) (λ z. tt)) (λ y. tt))
 
-pub moveOf-sound : (m : Market) → T (isBid (m .bid)) → (o : Order) → FieldsSound o → MoveSound (pick (restricted m (o .mark)) (moveOf m o) Stay)
+pub moveOf-sound : (m : Market) → HasPermitted m → (o : Order) → FieldsSound (m .step) o → MoveSound (m .step) (pick (restricted m (o .mark)) (moveOf m o) Stay)
 unfolding moveOf
 moveOf-sound m t o h =
+    let Sound : Move → Type 0 = MoveSound (m .step) in
     by-test
-    MoveSound
+    Sound
     _
-    (λ r. by-test MoveSound _ (λ x. by-test MoveSound _ (λ y. tt) (λ y. permittedNow-legal m t)) (λ x. by-test MoveSound _ (λ y. slideDown-sound m t o h) (λ y. tt)))
+    (λ r. by-test Sound _ (λ x. by-test Sound _ (λ y. tt) (λ y. permittedNow-legal m t)) (λ x. by-test Sound _ (λ y. slideDown-sound m t o h) (λ y. tt)))
     (λ r. tt)
 
 -- the pass
 
 -- the book after an effect, and how many stamps it took at most
-abbrev pub SoundEffect : ℕ → ℕ → ℕ → Effect → Type 0
-SoundEffect n s k x = SoundBook n (x .stamp) (x .orders) × (x.stamp ≤ s + k)
+abbrev pub SoundEffect : ℕ → ℕ → ℕ → ℕ → Effect → Type 0
+SoundEffect g n s k x = SoundBook g n (x .stamp) (x .orders) × (x.stamp ≤ s + k)
 
 -- an order of the book at a new price, with the next stamp
-pub atNewPrice-sound : {n s : ℕ} {o : Order} {os : List Order} (p : ℕ) (used : Bool) → T (legal p) → List·Memᴰ o os → SoundBook n s os → SoundWork n (s + 1) (atNewPrice p (s + 1) used o) (without (o .id) os)
-atNewPrice-sound {n} {s} {o} {os} p used h m b =
+pub atNewPrice-sound : {g n s : ℕ} {o : Order} {os : List Order} (p : ℕ) (used : Bool) → T (legal g p) → List·Memᴰ o os → SoundBook g n s os → SoundWork g n (s + 1) (atNewPrice p (s + 1) used o) (without (o .id) os)
+atNewPrice-sound {g} {n} {s} {o} {os} p used h m b =
     let t = mem-taken m (book-distinct b) in
     let w = book-order b m .works in
-    let r : SoundBook n s (without (o .id) os) = book-without b (o .id) in
+    let r : SoundBook g n s (without (o .id) os) = book-without b (o .id) in
     record {
       book = book-later r n (s + 1) (omega arith) (omega arith);
       room = omega (arith, taken-length t, b .few);
@@ -191,19 +193,19 @@ atNewPrice-sound {n} {s} {o} {os} p used h m b =
       positive = taken-all (λ (x : Order). 0 < x.id) t (rises-all 0 os (b .rises)) .0;
     }
 
-afterMove-sound : {n s : ℕ} {o : Order} {os : List Order} (x : Move) → MoveSound x → List·Memᴰ o os → SoundBook n s os → SoundEffect n s 1 (afterMove x o os s)
+afterMove-sound : {g n s : ℕ} {o : Order} {os : List Order} (x : Move) → MoveSound g x → List·Memᴰ o os → SoundBook g n s os → SoundEffect g n s 1 (afterMove x o os s)
 unfolding afterMove
 afterMove-sound Stay h m b = (b, omega arith)
 afterMove-sound {o} Cancel h m b = (book-without b (o .id), omega arith)
 afterMove-sound (Reprice p used) h m b = (work-sound _ _ (atNewPrice-sound p used h m b), omega arith)
 
-module _ (m : Market) (t : T (isBid (m .bid))) (n : ℕ) where
-  pub passOne-sound : (i : ℕ) (x : Option Order) (os : List Order) (s : ℕ) → Found i os x → SoundBook n s os → SoundEffect n s 1 (passOne m x os s)
+module _ (m : Market) (t : HasPermitted m) (n : ℕ) where
+  pub passOne-sound : (i : ℕ) (x : Option Order) (os : List Order) (s : ℕ) → Found i os x → SoundBook (m .step) n s os → SoundEffect (m .step) n s 1 (passOne m x os s)
   unfolding passOne
   passOne-sound i none os s f b = (b, omega arith)
   passOne-sound i (some o) os s f b = afterMove-sound _ (moveOf-sound m t o (book-order b (f .0) .works .fields)) (f .0) b
 
-  passOver-sound : (is : List ℕ) (os : List Order) (s : ℕ) → SoundBook n s os → SoundEffect n s (length is) (passOver m is os s)
+  passOver-sound : (is : List ℕ) (os : List Order) (s : ℕ) → SoundBook (m .step) n s os → SoundEffect (m .step) n s (length is) (passOver m is os s)
   unfolding passOver
   passOver-sound [] os s b = (b, omega arith)
   passOver-sound (i ∷ is) os s b =
@@ -214,12 +216,16 @@ module _ (m : Market) (t : T (isBid (m .bid))) (n : ℕ) where
 -- the venue
 
 pub record SoundMarket (m : Market) : Type 0 where
+  pub step : T (isStep (m .step))
   pub phase : m.phase ≤ 2
-  pub close : T (legal (m .close))
-  pub bid : T (isBid (m .bid))
+  pub close : T (legal (m .step) (m .close))
+  pub bid : T (isBid (m .step) (m .bid))
+
+pub market-permits : {m : Market} → SoundMarket m → HasPermitted m
+market-permits g = (g .step, g .bid)
 
 pub record SoundVenue (v : Venue) : Type 0 where
-  pub book : SoundBook (v .lastId) (v .lastStamp) (v .orders)
+  pub book : SoundBook (v.market.step) (v .lastId) (v .lastStamp) (v .orders)
   pub market : SoundMarket (v .market)
   pub events : v.acceptedEvents ≤ mostEvents
   pub stamps : v.lastStamp ≤ 256 * v.acceptedEvents
@@ -229,16 +235,16 @@ unfolding sound
 sound-venue v t = go (conj-T (venueConditions v) t)
   where
     go : Each (venueConditions v) → SoundVenue v
-    go (few, (rises, (orders, (differ, (phase, (close, (best, (events, (stamps, end))))))))) =
+    go (few, (rises, (orders, (differ, (step, (phase, (close, (best, (events, (stamps, end)))))))))) =
         record {
           book =
               record {
                 few = leb→le _ _ few;
                 rises = idsRise-rises 0 (v .orders) rises;
-                orders = all-map (order-mayRest (v .lastId) (v .lastStamp)) (v .orders) (every-T (soundOrder (v .lastId) (v .lastStamp)) (v .orders) orders);
+                orders = all-map (order-mayRest (v.market.step) (v .lastId) (v .lastStamp)) (v .orders) (every-T (soundOrder (v.market.step) (v .lastId) (v .lastStamp)) (v .orders) orders);
                 stamps = stampsDiffer-differ (v .orders) differ;
               };
-          market = record { phase = leb→le _ _ phase; close = close; bid = best };
+          market = record { step = step; phase = leb→le _ _ phase; close = close; bid = best };
           events = leb→le _ _ events;
           stamps = leb→le _ _ stamps;
         }
@@ -246,15 +252,15 @@ sound-venue v t = go (conj-T (venueConditions v) t)
 pub venue-sound : (v : Venue) → SoundVenue v → T (sound v)
 unfolding sound
 venue-sound v g =
-    T-conj (venueConditions v) (le→leb _ _ (g .book .few), (rises-idsRise 0 (v .orders) (g .book .rises), (T-every (soundOrder (v .lastId) (v .lastStamp)) (v .orders) (all-map (mayRest-order (v .lastId) (v .lastStamp)) (v .orders) (g .book .orders)), (differ-stampsDiffer (v .orders) (g .book .stamps), (le→leb _ _ (g .market .phase), (g .market .close, (g .market .bid, (le→leb _ _ (g .events), (le→leb _ _ (g .stamps), tt)))))))))
+    T-conj (venueConditions v) (le→leb _ _ (g .book .few), (rises-idsRise 0 (v .orders) (g .book .rises), (T-every (soundOrder (v.market.step) (v .lastId) (v .lastStamp)) (v .orders) (all-map (mayRest-order (v.market.step) (v .lastId) (v .lastStamp)) (v .orders) (g .book .orders)), (differ-stampsDiffer (v .orders) (g .book .stamps), (g .market .step, (le→leb _ _ (g .market .phase), (g .market .close, (g .market .bid, (le→leb _ _ (g .events), (le→leb _ _ (g .stamps), tt))))))))))
 
 -- events
 
 module _ (m : Market) (mark price : ℕ) where
-  pub workingPrice-legal : T (legal (limitOf mark price)) → T (isBid (m .bid)) → T (legal (workingPrice m mark price))
+  pub workingPrice-legal : T (legal (m .step) (limitOf mark price)) → HasPermitted m → T (legal (m .step) (workingPrice m mark price))
   unfolding workingPrice
   workingPrice-legal h t =
-      by-test (λ (p : ℕ). T (legal p)) _ (λ r. max-legal (limitOf mark price) (permittedNow m) h (permittedNow-legal m t)) (λ r. h)
+      by-test (λ (p : ℕ). T (legal (m .step) p)) _ (λ r. max-legal (m .step) (limitOf mark price) (permittedNow m) h (permittedNow-legal m t)) (λ r. h)
 
   life-code : (life : ℕ) → life ≤ 1 → lifeOf m mark price life ≤ 1
   unfolding lifeOf
@@ -271,7 +277,7 @@ module _ (m : Market) (mark price : ℕ) where
   follows-allowed : T (marketAllowed (followsBid m mark price) mark (limitOf mark price))
   follows-allowed = market-allowed (followsBid m mark price) mark (limitOf mark price) follows-short
 
-pub orderOf-sound : (v : Venue) (e : Entry) → Allowed v (entry e) → SoundVenue v → SoundWork (e .id) (v .lastStamp + 1) (orderOf (v .market) (v .lastStamp + 1) e) (v .orders)
+pub orderOf-sound : (v : Venue) (e : Entry) → Allowed v (entry e) → SoundVenue v → SoundWork (v.market.step) (e .id) (v .lastStamp + 1) (orderOf (v .market) (v .lastStamp + 1) e) (v .orders)
 unfolding orderOf codesInRange
 orderOf-sound v e f g =
     let c = conj-T (entryCodes e) (f .codes) in
@@ -287,7 +293,7 @@ orderOf-sound v e f g =
             id = omega arith;
             first = omega arith;
             last = omega arith;
-            price = workingPrice-legal m (e .mark) (e .price) (t .limit) (g .market .bid);
+            price = workingPrice-legal m (e .mark) (e .price) (t .limit) (market-permits (g .market));
             most = t .most;
           };
       newStamp = all-map (λ x k z. omega (arith, k .works .last)) (v .orders) (g .book .orders);
@@ -298,20 +304,20 @@ orderOf-sound v e f g =
 pub marketAfter-sound : (v : Venue) (e : Event) → Allowed v e → SoundMarket (v .market) → SoundMarket (marketAfter e (v .market))
 marketAfter-sound v (entry e) f g = g
 marketAfter-sound v (cancel i) f g = g
-marketAfter-sound v (bid b) f g = record { phase = g .phase; close = g .close; bid = f }
-marketAfter-sound v (tape p) f g = record { phase = tape-phase (v .market .close) (v .market .phase) p (g .phase); close = g .close; bid = g .bid }
-marketAfter-sound v (dayEnd c) f g = record { phase = day-end-phase (v .market .phase); close = f; bid = no-bid }
+marketAfter-sound v (bid b) f g = record { step = g .step; phase = g .phase; close = g .close; bid = f }
+marketAfter-sound v (tape p) f g = record { step = g .step; phase = tape-phase (v .market .close) (v .market .phase) p (g .phase); close = g .close; bid = g .bid }
+marketAfter-sound v (dayEnd c) f g = record { step = g .step; phase = day-end-phase (v .market .phase); close = f; bid = no-bid (v.market.step) }
 
-thePass-sound : (m : Market) (v : Venue) → T (isBid (m .bid)) → SoundVenue v → SoundEffect (v .lastId) (v .lastStamp) mostOrders (thePass m v)
+thePass-sound : (m : Market) (v : Venue) → HasPermitted m → SoundBook (m .step) (v .lastId) (v .lastStamp) (v .orders) → SoundEffect (m .step) (v .lastId) (v .lastStamp) mostOrders (thePass m v)
 unfolding thePass
-thePass-sound m v t g =
-    let r = passOver-sound m t (v .lastId) (map idOf (v .orders)) (v .orders) (v .lastStamp) (g .book) in
-    (r .0, omega (arith, r .1, g .book .few, length-map (v .orders) idOf))
+thePass-sound m v t b =
+    let r = passOver-sound m t (v .lastId) (map idOf (v .orders)) (v .orders) (v .lastStamp) b in
+    (r .0, omega (arith, r .1, b .few, length-map (v .orders) idOf))
 
-pub effectOf-sound : (v : Venue) (e : Event) → Allowed v e → SoundVenue v → SoundEffect (lastIdAfter v e) (v .lastStamp) mostOrders (effectOf (marketAfter e (v .market)) v e)
+pub effectOf-sound : (v : Venue) (e : Event) → Allowed v e → SoundVenue v → let m : Market = marketAfter e (v .market) in SoundEffect (m .step) (lastIdAfter v e) (v .lastStamp) mostOrders (effectOf m v e)
 unfolding effectOf entering effectOfEntry orderOf effectOfCancel effectOfDayEnd
 effectOf-sound v (entry e) f g = (work-sound _ (v .orders) (orderOf-sound v e f g), omega arith)
 effectOf-sound v (cancel i) f g = (book-without (g .book) i, omega arith)
-effectOf-sound v (bid b) f g = thePass-sound _ v f g
-effectOf-sound v (tape p) f g = thePass-sound _ v (g .market .bid) g
+effectOf-sound v (bid b) f g = thePass-sound _ v (g .market .step, f) (g .book)
+effectOf-sound v (tape p) f g = thePass-sound _ v (market-permits (g .market)) (g .book)
 effectOf-sound v (dayEnd c) f g = (record { few = omega arith; rises = tt; orders = tt; stamps = tt }, omega arith)

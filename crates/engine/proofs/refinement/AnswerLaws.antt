@@ -2,7 +2,7 @@
 use Prim.Native.Nat.{_≤_, _<_}
 use native.Mathlib.Omega.{arith}
 use Rattle.engine.specs.declared.Refusal.{Refusal}
-use Rattle.engine.specs.declared.Refusal.the-variants.{BufferTooShort, EventsSpent, PriceNotLegal, SharesOutOfRange, CodeOutOfRange, IdNotNew, BookFull, NotResting, VenueBroken}
+use Rattle.engine.specs.declared.Refusal.the-variants.{BufferTooShort, EventsSpent, PriceNotLegal, SharesOutOfRange, CodeOutOfRange, IdNotNew, BookFull, NotResting, VenueBroken, NotStep}
 use Rattle.engine.specs.rules.Answers.{refusalNumber}
 
 pub refusal-range : (r : Refusal) → (1 ≤ refusalNumber r) × (refusalNumber r < 128)
@@ -15,3 +15,4 @@ refusal-range IdNotNew = (omega arith, omega arith)
 refusal-range BookFull = (omega arith, omega arith)
 refusal-range NotResting = (omega arith, omega arith)
 refusal-range VenueBroken = (omega arith, omega arith)
+refusal-range NotStep = (omega arith, omega arith)

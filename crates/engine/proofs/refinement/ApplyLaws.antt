@@ -24,7 +24,7 @@ use Rattle.engine.specs.steps.Memory.{MayJudge, Room, effectIn, MayAccep
 use Rattle.engine.specs.rules.Layout.{venueOf, soundWords, stepIn}
 use Rattle.engine.specs.claims.Calls.{Applied}
 use Rattle.engine.proofs.refinement.MemoryLaws.{spare-same}
-use Rattle.engine.proofs.refinement.RefusalLaws.{Allowed, NotRefused, Unless, refusalOfKind-known}
+use Rattle.engine.proofs.refinement.RefusalLaws.{sound-step, Allowed, NotRefused, Unless, refusalOfKind-known}
 use Rattle.engine.proofs.refinement.RefuseLaws.{refuse-yes, refuse-no, words-ordered, words-book, words-sound, sound-words}
 use Rattle.engine.proofs.refinement.OpeningLaws.{step-in}
 use Rattle.engine.proofs.demand3.ReachedLaws.{step-sound}
@@ -62,7 +62,7 @@ module _ (w : List ℕ) (e : Event) (n : ℕ) (h : refusalIn w e n ≡ none) whe
       let a = unrefused (soundWords w) 16 _ h in
       let b = unrefused _ 1 _ (a .1) in
       let c = unrefused _ 2 _ (b .1) in
-      record { sound = words-sound w (a .0); buffer = leb→le _ _ (b .0); events = leb→le _ _ (c .0); allowed = subst (λ (x : Option ℕ). Unless x (Allowed (venueOf w) e)) (c .1) (refusalOfKind-known (venueOf w) e) }
+      record { sound = words-sound w (a .0); buffer = leb→le _ _ (b .0); events = leb→le _ _ (c .0); allowed = subst (λ (x : Option ℕ). Unless x (Allowed (venueOf w) e)) (c .1) (refusalOfKind-known (venueOf w) (sound-step (venueOf w) (words-sound w (a .0))) e) }
 
   pub may-accept : MayAccept w
   unfolding refusalIn

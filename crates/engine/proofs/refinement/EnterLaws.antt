@@ -26,7 +26,7 @@ use Rattle.engine.proofs.refinement.StepLaws.{room-as, room-first, room
 accept-sound : {w : List ℕ} → MayAccept w → SoundVenue (venueOf w)
 accept-sound {w} a = sound-venue (venueOf w) (a .sound)
 
-pub accept-bid : {w : List ℕ} → MayAccept w → T (isBid (venueOf w .market .bid))
+pub accept-bid : {w : List ℕ} → MayAccept w → T (isBid (venueOf w .market .step) (venueOf w .market .bid))
 accept-bid a = accept-sound a .market .bid
 
 -- 256 more stamps are 32-bit numbers

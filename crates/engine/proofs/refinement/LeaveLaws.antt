@@ -100,8 +100,8 @@ module _ (w : List ℕ) (close : ℕ) (m : Market) (e : m ≡ marketAfter (dayEn
     unfolding idsRise
     emptied = holds-becomes tt g
 
-    pub emptied-ordered : Ordered w₁
-    emptied-ordered = emptied .ordered
+    pub emptied-may-set : Ordered w₁ × (m.step ≡ venueOf w₁ .market .step)
+    emptied-may-set = (emptied .ordered, ap (λ (x : Market). x .step) e ∙ ap (λ (v : Venue). v .market .step) (sym (emptied .venue)))
 
     pub emptied-in : {w₂ : List ℕ} → Becomes w₁ w₂ (inMarket m (venueOf w₁)) → Becomes w w₂ (inMarket m (withOrders [] (venueOf w)))
     emptied-in f = becomes-as (becomes-then emptied f) (ap (inMarket m) (emptied .venue))

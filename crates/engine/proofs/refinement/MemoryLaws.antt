@@ -20,11 +20,11 @@ use Rattle.engine.specs.steps.Memory.{Ordered, Becomes, Does, inMarket, 
 use Rattle.engine.specs.rules.Layout.{venueOf}
 
 -- a venue by its parts
-venue-as : (w : List ℕ) (v : Venue) → getD w 1 0 ≡ v.market.close → getD w 2 0 ≡ v.market.phase → getD w 3 0 ≡ v.market.bid → resting w ≡ v.orders → getD w 4 0 ≡ v.lastId → getD w 5 0 ≡ v.lastStamp → getD w 6 0 ≡ v.acceptedEvents → venueOf w ≡ v
+venue-as : (w : List ℕ) (v : Venue) → getD w 1 0 ≡ v.market.close → getD w 2 0 ≡ v.market.phase → getD w 3 0 ≡ v.market.bid → resting w ≡ v.orders → getD w 4 0 ≡ v.lastId → getD w 5 0 ≡ v.lastStamp → getD w 6 0 ≡ v.acceptedEvents → getD w 7 0 ≡ v.market.step → venueOf w ≡ v
 unfolding venueOf
-venue-as w v a b c d e f g = λ i.
+venue-as w v a b c d e f g h = λ i.
     record {
-      market = record { close = a i; phase = b i; bid = c i };
+      market = record { close = a i; phase = b i; bid = c i; step = h i };
       orders = d i;
       lastId = e i;
       lastStamp = f i;
@@ -53,7 +53,7 @@ unfolding venueOf
 holds-becomes {w} {w′} {os} t h =
     record {
       ordered = record { book = h .book; rises = rw (h .rests) t };
-      venue = venue-as w′ (withOrders os (venueOf w)) (k 1 (omega arith) (omega arith)) (k 2 (omega arith) (omega arith)) (k 3 (omega arith) (omega arith)) (h .rests) (k 4 (omega arith) (omega arith)) (k 5 (omega arith) (omega arith)) (k 6 (omega arith) (omega arith));
+      venue = venue-as w′ (withOrders os (venueOf w)) (k 1 (omega arith) (omega arith)) (k 2 (omega arith) (omega arith)) (k 3 (omega arith) (omega arith)) (h .rests) (k 4 (omega arith) (omega arith)) (k 5 (omega arith) (omega arith)) (k 6 (omega arith) (omega arith)) (k 7 (omega arith) (omega arith));
       same = record { size = h .size; spare = λ j l s. h .header j (omega arith) s; behind = h .behind };
     }
   where
@@ -81,7 +81,7 @@ abbrev withWord : ℕ → ℕ → Venue → Venue
 withWord k x v =
     let at : ℕ → ℕ → ℕ = λ j y. pick (eqb j k) x y in
     record {
-      market = record { close = at 1 (v.market.close); phase = at 2 (v.market.phase); bid = at 3 (v.market.bid) };
+      market = record { close = at 1 (v.market.close); phase = at 2 (v.market.phase); bid = at 3 (v.market.bid); step = v.market.step };
       orders = v.orders;
       lastId = at 4 (v .lastId);
       lastStamp = at 5 (v .lastStamp);
@@ -93,7 +93,7 @@ unfolding venueOf
 word-set {w} {w′} {k} {x} l o h =
     record {
       ordered = record { book = h .book; rises = rw (h .rests) (o .rises) };
-      venue = venue-as w′ (withWord k x (venueOf w)) (at 1) (at 2) (at 3) (h .rests) (at 4) (at 5) (at 6);
+      venue = venue-as w′ (withWord k x (venueOf w)) (at 1) (at 2) (at 3) (h .rests) (at 4) (at 5) (at 6) (word-other h 7 (λ e. omega arith));
       same =
           record {
             size = ap length (h .is) ∙ length-set w k x;
@@ -108,13 +108,13 @@ word-set {w} {w′} {k} {x} l o h =
 
 -- the header words of an event
 
-pub market-set : {w w₁ w₂ w′ : List ℕ} (m : Market) → Ordered w → HeaderSet w w₁ 1 (m .close) → HeaderSet w₁ w₂ 2 (m .phase) → HeaderSet w₂ w′ 3 (m .bid) → Becomes w w′ (inMarket m (venueOf w))
+pub market-set : {w w₁ w₂ w′ : List ℕ} (m : Market) → Ordered w → m.step ≡ venueOf w .market .step → HeaderSet w w₁ 1 (m .close) → HeaderSet w₁ w₂ 2 (m .phase) → HeaderSet w₂ w′ 3 (m .bid) → Becomes w w′ (inMarket m (venueOf w))
 unfolding pick
-market-set m o f g h =
+market-set m o e f g h =
     let a = word-set (omega arith) o f in
     let b = word-set (omega arith) (a .ordered) g in
     let c = word-set (omega arith) (b .ordered) h in
-    becomes-as (becomes-then a (becomes-then b c)) (rw (b .venue, a .venue))
+    becomes-as (becomes-then a (becomes-then b c)) (rw (b .venue, a .venue, e))
 
 pub events-counted : {w w′ : List ℕ} {n : ℕ} → Ordered w → n ≡ getD w 6 0 → HeaderSet w w′ 6 (n + 1) → let v = venueOf w in Becomes w w′ (finished (v .lastId) (v .lastStamp) v)
 unfolding venueOf pick

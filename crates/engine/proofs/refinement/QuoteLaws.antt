@@ -54,10 +54,10 @@ module _ (w : List ℕ) (a : MayAccept w) (m : Market) (s : ℕ) (em : m ≡ ven
   unfolding thePass venueOf
   the-pass = ap₂ (λ (x : Market) (k : ℕ). passOver x (idsOf (resting w)) (resting w) k) em es
 
-  pub pass-may : (b : List ℕ) (at : ℕ) → Room b at (passIn w .reports) → Ordered w × T (isBid (m .bid)) × (s + 256 < 4294967296) × Room b at (Pass .reports)
+  pub pass-may : (b : List ℕ) (at : ℕ) → Room b at (passIn w .reports) → Ordered w × T (isBid (m .step) (m .bid)) × (s + 256 < 4294967296) × Room b at (Pass .reports)
   pass-may b at r =
       let v = sound-venue (venueOf w) (a .sound) in
-      (a .ordered, subst (λ (x : Market). T (isBid (x .bid))) (sym em) (v .market .bid), omega (arith, last-stamp w es, v .stamps, a .events), room-as b at (ap (λ (x : Effect). x .reports) (sym the-pass)) r)
+      (a .ordered, subst (λ (x : Market). T (isBid (x .step) (x .bid))) (sym em) (v .market .bid), omega (arith, last-stamp w es, v .stamps, a .events), room-as b at (ap (λ (x : Effect). x .reports) (sym the-pass)) r)
 
   module _ {w₁ b b₁ : List ℕ} {at e t : ℕ} (d : DoesEffect w w₁ b b₁ at Pass e t) where
     passed : Becomes w w₁ (withOrders (Pass .orders) (venueOf w))
@@ -78,12 +78,12 @@ module _ (w : List ℕ) (a : MayAccept w) (m : Market) (s : ℕ) (em : m ≡ ven
 -- the words in a new market
 
 module _ {w w₁ : List ℕ} {m : Market} (f : Becomes w w₁ (inMarket m (venueOf w))) where
-  moved-accepts : MayAccept w → SoundMarket m → MayAccept w₁
-  moved-accepts a g =
+  moved-accepts : MayAccept w → m.step ≡ venueOf w .market .step → SoundMarket m → MayAccept w₁
+  moved-accepts a k g =
       let v = sound-venue (venueOf w) (a .sound) in
       record {
         ordered = f .ordered;
-        sound = subst (λ (u : Venue). T (sound u)) (sym (f .venue)) (venue-sound (inMarket m (venueOf w)) (record { book = v .book; market = g; events = v .events; stamps = v .stamps }));
+        sound = subst (λ (u : Venue). T (sound u)) (sym (f .venue)) (venue-sound (inMarket m (venueOf w)) (record { book = rw k (v .book); market = g; events = v .events; stamps = v .stamps }));
         events = rw (f .venue) (a .events);
       }
 
@@ -102,15 +102,15 @@ module _ (w : List ℕ) (x : ℕ) (m : Market) (e : m ≡ marketAfter (bid x) (v
   unfolding effectIn effectOf
   bid-effect = ap (λ (y : Market). thePass y (venueOf w)) e
 
-  bid-sound : MayAccept w → T (isBid x) → SoundMarket m
+  bid-sound : MayAccept w → T (isBid (venueOf w .market .step) x) → SoundMarket m
   bid-sound a t =
       let g = sound-venue (venueOf w) (a .sound) .market in
-      subst SoundMarket (sym e) (record { phase = g .phase; close = g .close; bid = t })
+      subst SoundMarket (sym e) (record { step = g .step; phase = g .phase; close = g .close; bid = t })
 
   module _ {w₁ : List ℕ} (f : Becomes w w₁ (inMarket m (venueOf w))) where
-    pub bid-may : MayAccept w → T (isBid x) → (b : List ℕ) → Room b 0 (effectIn w (bid x) .reports) → MayAccept w₁ × Room b 0 (passIn w₁ .reports)
+    pub bid-may : MayAccept w → T (isBid (venueOf w .market .step) x) → (b : List ℕ) → Room b 0 (effectIn w (bid x) .reports) → MayAccept w₁ × Room b 0 (passIn w₁ .reports)
     bid-may a t b r =
-        (moved-accepts f a (bid-sound a t), room-as b 0 (ap (λ (y : Effect). y .reports) (sym (new-pass f ∙ bid-effect))) r)
+        (moved-accepts f a (ap (λ (y : Market). y .step) e) (bid-sound a t), room-as b 0 (ap (λ (y : Effect). y .reports) (sym (new-pass f ∙ bid-effect))) r)
 
     pub bid-done : {w′ b b′ : List ℕ} {end : ℕ} → PassesAndFinishes w₁ w′ b b′ 0 end → Accepts w w′ b b′ (bid x) end
     bid-done p =
@@ -140,7 +140,7 @@ module _ (w : List ℕ) (x : ℕ) (k m : Market) (ek : k ≡ venueOf w .market) 
   tape-sound a =
       let g = sound-venue (venueOf w) (a .sound) .market in
       let v = venueOf w .market in
-      subst SoundMarket (sym after-tape) (record { phase = tape-phase (v .close) (v .phase) x (g .phase); close = g .close; bid = g .bid })
+      subst SoundMarket (sym after-tape) (record { step = g .step; phase = tape-phase (v .close) (v .phase) x (g .phase); close = g .close; bid = g .bid })
 
   module _ (b : List ℕ) (r : Room b 0 (effectIn w (tape x) .reports)) where
     both : Room b 0 (restrictionReport k m ++ thePass m (venueOf w) .reports)
@@ -152,7 +152,7 @@ module _ (w : List ℕ) (x : ℕ) (k m : Market) (ek : k ≡ venueOf w .market) 
     module _ {b₁ w₁ : List ℕ} {at : ℕ} (put : Put (reportsBytes (restrictionReport k m)) 0 b at b₁) (f : Becomes w w₁ (inMarket m (venueOf w))) where
       pub tape-may : MayAccept w → MayAccept w₁ × Room b₁ at (passIn w₁ .reports)
       tape-may a =
-          (moved-accepts f a (tape-sound a), room-as b₁ at (ap (λ (y : Effect). y .reports) (sym (new-pass f))) (room-then (restrictionReport k m) (thePass m (venueOf w) .reports) both put))
+          (moved-accepts f a (ap (λ (y : Market). y .step) after-tape) (tape-sound a), room-as b₁ at (ap (λ (y : Effect). y .reports) (sym (new-pass f))) (room-then (restrictionReport k m) (thePass m (venueOf w) .reports) both put))
 
       tape-wrote : {b′ : List ℕ} {end : ℕ} → Put (reportsBytes (passIn w₁ .reports)) at b₁ end b′ → Put (reportsBytes (effectIn w (tape x) .reports)) 0 b end b′
       tape-wrote p =

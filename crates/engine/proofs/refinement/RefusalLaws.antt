@@ -5,8 +5,8 @@ use mathlib.Core.Logic.{_⊎_, inl, inr}
 use mathlib.Core.Option.{Option, none, some}
 use lib.Dec.{T, leb, leb→le, T-not}
 use lib.ListN.{length}
-use Rattle.numbers.proofs.TestLaws.{by-test, or-T}
-use Rattle.prices.specs.Prices.{legal, isBid}
+use Rattle.numbers.proofs.TestLaws.{by-test, or-T, conj-T}
+use Rattle.prices.specs.Prices.{isStep, legal, isBid}
 use Rattle.prices.proofs.PriceLaws.{highest-legal, one-legal}
 use Rattle.book.specs.rules.Orders.{find}
 use Rattle.book.specs.rules.Sound.{mostShares}
@@ -15,12 +15,17 @@ use Rattle.engine.specs.declared.Event.{Event}
 use Rattle.engine.specs.declared.Event.the-variants.{Entry as entry, Cancel as cancel, Bid as bid, Tape as tape, DayEnd as dayEnd}
 use Rattle.engine.specs.rules.Working.{isMarket, limitOf}
 use Rattle.engine.specs.rules.Venue.{Venue}
-use Rattle.engine.specs.rules.Sound.{mostOrders, mostEvents, sound}
+use Rattle.engine.specs.rules.Sound.{mostOrders, mostEvents, venueConditions, sound}
 use Rattle.engine.specs.rules.Refusals.{refuseUnless, firstOf, codesInRange, refusalOfTerms, refusalOfCodes, refusalOfPlace, rests, refusalOfKind, leastBuffer, refusal}
 
--- what the refusals of its terms leave of an entry; what counts as its limit is legal
-abbrev pub TermsAllowed : Entry → Type 0
-TermsAllowed e = record { limit : T (legal (limitOf (e .mark) (e .price))); least : 1 ≤ e.shares; most : e.shares ≤ mostShares }
+-- the step of a sound record is one
+pub sound-step : (v : Venue) → T (sound v) → T (isStep (v.market.step))
+unfolding sound
+sound-step v t = conj-T (venueConditions v) t .1 .1 .1 .1 .0
+
+-- what the refusals of its terms leave of an entry; what counts as its limit is legal at the step
+abbrev pub TermsAllowed : ℕ → Entry → Type 0
+TermsAllowed step e = record { limit : T (legal step (limitOf (e .mark) (e .price))); least : 1 ≤ e.shares; most : e.shares ≤ mostShares }
 
 -- what those of its place leave
 abbrev pub PlaceAllowed : Venue → ℕ → Type 0
@@ -28,11 +33,11 @@ PlaceAllowed v id = record { newId : v.lastId < id; room : length (v .orders) < 
 
 -- what the refusals of its kind leave of an event
 abbrev pub Allowed : Venue → Event → Type 0
-Allowed v (entry e) = record { terms : TermsAllowed e; codes : T (codesInRange e); place : PlaceAllowed v (e .id) }
+Allowed v (entry e) = record { terms : TermsAllowed (v.market.step) e; codes : T (codesInRange e); place : PlaceAllowed v (e .id) }
 Allowed v (cancel i) = T (rests (find i (v .orders)))
-Allowed v (bid b) = T (isBid b)
-Allowed v (tape p) = T (legal p)
-Allowed v (dayEnd c) = T (legal c)
+Allowed v (bid b) = T (isBid (v.market.step) b)
+Allowed v (tape p) = T (legal (v.market.step) p)
+Allowed v (dayEnd c) = T (legal (v.market.step) c)
 
 -- what all refusals leave; n is the length of the lent report buffer
 pub record NotRefused (v : Venue) (e : Event) (n : ℕ) : Type 0 where
@@ -60,38 +65,38 @@ unfolding firstOf
 firstOf-known P Q none later h f = f h
 firstOf-known P Q (some n) later h f = tt
 
-limit-legal : (mark price : ℕ) → T (isMarket price || legal price) → T (legal (limitOf mark price))
+limit-legal : (s : ℕ) → T (isStep s) → (mark price : ℕ) → T (isMarket price || legal s price) → T (legal s (limitOf mark price))
 unfolding limitOf
-limit-legal mark price h =
-    by-test (λ (x : ℕ). T (legal x)) _ (λ z. by-test (λ (x : ℕ). T (legal x)) _ (λ y. highest-legal) (λ y. one-legal)) (λ z. go z (or-T (isMarket price) (legal price) h))
+limit-legal s is mark price h =
+    by-test (λ (x : ℕ). T (legal s x)) _ (λ z. by-test (λ (x : ℕ). T (legal s x)) _ (λ y. highest-legal s is) (λ y. one-legal s)) (λ z. go z (or-T (isMarket price) (legal s price) h))
   where
-    go : T (not (isMarket price)) → T (isMarket price) ⊎ T (legal price) → T (legal price)
+    go : T (not (isMarket price)) → T (isMarket price) ⊎ T (legal s price) → T (legal s price)
     go z (inl x) = absurd (T-not (isMarket price) z x)
     go z (inr x) = x
 
-refusalOfTerms-known : (e : Entry) → Unless (refusalOfTerms (e .price) (e .shares)) (TermsAllowed e)
+refusalOfTerms-known : (s : ℕ) → T (isStep s) → (e : Entry) → Unless (refusalOfTerms s (e .price) (e .shares)) (TermsAllowed s e)
 unfolding refusalOfTerms
-refusalOfTerms-known e =
-    refuseUnless-known _ _ _ _ (λ p. refuseUnless-known _ (leb 1 (e .shares)) _ _ (λ a. refuseUnless-known _ (leb (e .shares) mostShares) _ none (λ s. record { limit = limit-legal (e .mark) (e .price) p; least = leb→le _ _ a; most = leb→le _ _ s })))
+refusalOfTerms-known s is e =
+    refuseUnless-known _ _ _ _ (λ p. refuseUnless-known _ (leb 1 (e .shares)) _ _ (λ a. refuseUnless-known _ (leb (e .shares) mostShares) _ none (λ b. record { limit = limit-legal s is (e .mark) (e .price) p; least = leb→le _ _ a; most = leb→le _ _ b })))
 
 refusalOfPlace-known : (v : Venue) (id : ℕ) → Unless (refusalOfPlace v id) (PlaceAllowed v id)
 unfolding refusalOfPlace
 refusalOfPlace-known v id = refuseUnless-known _ _ _ _ (λ i. refuseUnless-known _ _ _ none (λ r. record { newId = leb→le _ _ i; room = leb→le _ _ r }))
 
-refusalOfEntry-known : (v : Venue) (e : Entry) → Unless (refusalOfKind v (entry e)) (Allowed v (entry e))
+refusalOfEntry-known : (v : Venue) → T (isStep (v.market.step)) → (e : Entry) → Unless (refusalOfKind v (entry e)) (Allowed v (entry e))
 unfolding refusalOfKind refusalOfCodes
-refusalOfEntry-known v e =
-    firstOf-known _ _ _ _ (refusalOfTerms-known e) (λ t. firstOf-known (T (codesInRange e)) _ _ _ (refuseUnless-known _ _ _ none (λ c. c)) (λ c. unless-map _ _ (λ p. record { terms = t; codes = c; place = p }) (refusalOfPlace v (e .id)) (refusalOfPlace-known v (e .id))))
+refusalOfEntry-known v is e =
+    firstOf-known _ _ _ _ (refusalOfTerms-known (v.market.step) is e) (λ t. firstOf-known (T (codesInRange e)) _ _ _ (refuseUnless-known _ _ _ none (λ c. c)) (λ c. unless-map _ _ (λ p. record { terms = t; codes = c; place = p }) (refusalOfPlace v (e .id)) (refusalOfPlace-known v (e .id))))
 
-pub refusalOfKind-known : (v : Venue) (e : Event) → Unless (refusalOfKind v e) (Allowed v e)
+pub refusalOfKind-known : (v : Venue) → T (isStep (v.market.step)) → (e : Event) → Unless (refusalOfKind v e) (Allowed v e)
 unfolding refusalOfKind
-refusalOfKind-known v (entry e) = refusalOfEntry-known v e
-refusalOfKind-known v (cancel i) = refuseUnless-known _ _ _ none (λ t. t)
-refusalOfKind-known v (bid b) = refuseUnless-known _ _ _ none (λ t. t)
-refusalOfKind-known v (tape p) = refuseUnless-known _ _ _ none (λ t. t)
-refusalOfKind-known v (dayEnd c) = refuseUnless-known _ _ _ none (λ t. t)
+refusalOfKind-known v is (entry e) = refusalOfEntry-known v is e
+refusalOfKind-known v is (cancel i) = refuseUnless-known _ _ _ none (λ t. t)
+refusalOfKind-known v is (bid b) = refuseUnless-known _ _ _ none (λ t. t)
+refusalOfKind-known v is (tape p) = refuseUnless-known _ _ _ none (λ t. t)
+refusalOfKind-known v is (dayEnd c) = refuseUnless-known _ _ _ none (λ t. t)
 
 pub refusal-known : (v : Venue) (e : Event) (n : ℕ) → Unless (refusal v e n) (NotRefused v e n)
 unfolding refusal
 refusal-known v e n =
-    refuseUnless-known _ _ _ _ (λ s. refuseUnless-known _ _ _ _ (λ b. refuseUnless-known _ _ _ _ (λ a. unless-map _ _ (λ k. record { sound = s; buffer = leb→le _ _ b; events = leb→le _ _ a; allowed = k }) (refusalOfKind v e) (refusalOfKind-known v e))))
+    refuseUnless-known _ _ _ _ (λ s. refuseUnless-known _ _ _ _ (λ b. refuseUnless-known _ _ _ _ (λ a. unless-map _ _ (λ k. record { sound = s; buffer = leb→le _ _ b; events = leb→le _ _ a; allowed = k }) (refusalOfKind v e) (refusalOfKind-known v (sound-step v s) e))))

@@ -9,6 +9,7 @@ use mathlib.Core.List.{List}
 use lib.Dec.{T, leb, le→leb, not-T}
 use lib.ListN.{length, getD}
 use Rattle.numbers.specs.Tests.{conj}
+use Rattle.prices.specs.Prices.{isStep}
 use Rattle.numbers.proofs.TestLaws.{T-false, and-T, T-and, bool-ext, Each, conj-T, T-conj, every-T, T-every}
 use Rattle.book.specs.declared.Order.{Order}
 use Rattle.book.specs.rules.Sound.{soundOrder}
@@ -17,7 +18,7 @@ use Rattle.book.proofs.refinement.WordLaws.{resting-length, isBook-laidOut, isB
 use Rattle.book.proofs.refinement.SoundBookLaws.{soundBook-parts, parts-soundBook}
 use Rattle.engine.specs.rules.Sound.{mostOrders, headerConditions, venueConditions, sound}
 use Rattle.engine.specs.rules.Refusals.{refuseUnless, firstOf, rests}
-use Rattle.engine.specs.steps.Memory.{Ordered}
+use Rattle.engine.specs.steps.Memory.{Ordered, HasStep}
 use Rattle.engine.specs.rules.Layout.{venueOf, soundWords}
 
 pub refuse-yes : (b : Bool) (n : ℕ) (later : Option ℕ) → b ≡ true → refuseUnless b n later ≡ later
@@ -49,7 +50,7 @@ absent-refused e = rw e
 
 module _ (w : List ℕ) where
   abbrev BookTests : Bool
-  BookTests = soundBook (getD w 4 0) (getD w 5 0) w
+  BookTests = soundBook (getD w 7 0) (getD w 4 0) (getD w 5 0) w
 
   words-each : T (soundWords w) → T (isBook w) × Each (venueConditions (venueOf w))
   unfolding soundWords sound
@@ -67,6 +68,14 @@ module _ (w : List ℕ) where
   unfolding soundWords
   words-sound t = and-T (isBook w) (sound (venueOf w)) t .1
 
+  -- the step of the header
+  pub header-step : T (conj (headerConditions (venueOf w))) → T (isStep (getD w 7 0))
+  unfolding venueOf
+  header-step t = conj-T (headerConditions (venueOf w)) t .0
+
+  pub words-stepped : T (soundWords w) → HasStep w
+  words-stepped t = record { book = words-ordered t .book; is = words-each t .1 .1 .1 .1 .1 .0 }
+
   pub sound-words : T (isBook w) → T (sound (venueOf w)) → T (soundWords w)
   unfolding soundWords
   sound-words t s = T-and (isBook w) (sound (venueOf w)) t s
@@ -82,13 +91,13 @@ module _ (w : List ℕ) where
       there : T (soundWords w) → T (conj (headerConditions (venueOf w)) && BookTests)
       there t =
           let a = words-each t in
-          T-and (conj (headerConditions (venueOf w))) BookTests (T-conj (headerConditions (venueOf w)) (a .1 .1 .1 .1 .1)) (parts-soundBook (getD w 4 0) (getD w 5 0) w (record { layout = a .0; rising = a .1 .1 .0; orders = every-T (soundOrder (getD w 4 0) (getD w 5 0)) (resting w) (a .1 .1 .1 .0); stamps = a .1 .1 .1 .1 .0 }))
+          T-and (conj (headerConditions (venueOf w))) BookTests (T-conj (headerConditions (venueOf w)) (a .1 .1 .1 .1 .1)) (parts-soundBook (getD w 7 0) (getD w 4 0) (getD w 5 0) w (record { layout = a .0; rising = a .1 .1 .0; orders = every-T (soundOrder (getD w 7 0) (getD w 4 0) (getD w 5 0)) (resting w) (a .1 .1 .1 .0); stamps = a .1 .1 .1 .1 .0 }))
 
       back : T (conj (headerConditions (venueOf w)) && BookTests) → T (soundWords w)
       back t =
           let h = and-T (conj (headerConditions (venueOf w))) BookTests t in
-          let p = soundBook-parts (getD w 4 0) (getD w 5 0) w (h .1) in
-          T-and (isBook w) (sound (venueOf w)) (p .layout) (T-conj (venueConditions (venueOf w)) (few (p .layout), (p .rising, (T-every (soundOrder (getD w 4 0) (getD w 5 0)) (resting w) (p .orders), (p .stamps, conj-T (headerConditions (venueOf w)) (h .0))))))
+          let p = soundBook-parts (getD w 7 0) (getD w 4 0) (getD w 5 0) w (h .1) in
+          T-and (isBook w) (sound (venueOf w)) (p .layout) (T-conj (venueConditions (venueOf w)) (few (p .layout), (p .rising, (T-every (soundOrder (getD w 7 0) (getD w 4 0) (getD w 5 0)) (resting w) (p .orders), (p .stamps, conj-T (headerConditions (venueOf w)) (h .0))))))
 
   pub short-words : length w < venueWords → soundWords w ≡ false
   short-words l = T-false (soundWords w) (not-T (soundWords w) (λ t. omega (arith, isBook-laidOut w (words-each t .0) .header .long)))

@@ -12,7 +12,7 @@ use lib.ListN.{length}
 use borrow.Author.Tests.{lt-ltb, lt-leb, eq-eqb, ne-eqb}
 use Rattle.numbers.specs.Tests.{pick, All}
 use Rattle.numbers.proofs.TestLaws.{by-test, T-true, T-false, and-T, nand-T, and-last, and-false, tests, all-map}
-use Rattle.prices.specs.Prices.{highest, isBid, permitted}
+use Rattle.prices.specs.Prices.{highest, isStep, permitted}
 use Rattle.prices.proofs.PriceLaws.{legal-positive, permitted-none}
 use Rattle.book.specs.declared.Order.{Order}
 use Rattle.book.specs.rules.Orders.{isBuy, find, without}
@@ -39,13 +39,13 @@ use Rattle.engine.specs.rules.Layout.{venueOf, stepIn}
 use Rattle.engine.specs.steps.Steps.{moveInPass}
 use Rattle.engine.specs.claims.MarketOrders.{limitOrder, withTerms, MarketShort, Immediate, MarketOrdersWork, MarketFlagKept, runsPass, MarketShortsStay, MarketShortsStayInCalls, MovesAsBefore, EntriesAsBefore}
 use Rattle.engine.proofs.refinement.RefusalLaws.{Allowed, NotRefused, Unless, refusal-known}
-use Rattle.engine.proofs.demand3.MarketLaws.{restricted-mark, permittedNow-above}
-use Rattle.engine.proofs.demand3.SoundLaws.{SoundBook, book-distinct, book-order, passOne-sound, SoundVenue, sound-venue, effectOf-sound}
+use Rattle.engine.proofs.demand3.MarketLaws.{restricted-mark, HasPermitted, permittedNow-above}
+use Rattle.engine.proofs.demand3.SoundLaws.{SoundBook, book-distinct, book-order, passOne-sound, SoundVenue, sound-venue, market-permits, effectOf-sound}
 use Rattle.engine.proofs.demand3.WorkingKeeps.{work-all}
 
 -- how a market order works
 
-module _ (m : Market) (stamp : ℕ) (e : Entry) (z : e.price ≡ 0) where
+module _ (m : Market) (is : T (isStep (m .step))) (stamp : ℕ) (e : Entry) (z : e.price ≡ 0) where
   zero-price : eqb (e .price) 0 ≡ true
   zero-price = eq-eqb (e .price) 0 z
 
@@ -59,7 +59,7 @@ module _ (m : Market) (stamp : ℕ) (e : Entry) (z : e.price ≡ 0) where
       let p = and-T (restricted m (e .mark)) (ltb 0 (m .bid)) t in
       let r = T-true (restricted m (e .mark)) (p .0) in
       let b = T-true (ltb 0 (m .bid)) (p .1) in
-      let above = permittedNow-above m in
+      let above = permittedNow-above m is in
       let present = leb→le 1 (m .bid) (p .1) in
       record {
         order = rw (zero-price, r, b, not-buy (p .0));
@@ -75,7 +75,7 @@ module _ (m : Market) (stamp : ℕ) (e : Entry) (z : e.price ≡ 0) where
     -- the permitted price is 1 where there is no bid, which a sell works at in any case
     restricted-price : T (restricted m (e .mark)) → max (pick (eqb (e .mark) 0) highest 1) (permittedNow m) ≡ pick (eqb (e .mark) 0) highest 1
     unfolding permittedNow pick
-    restricted-price r = rw (not-buy r, ap permitted (none-there (nand-T (restricted m (e .mark)) (ltb 0 (m .bid)) n)), permitted-none)
+    restricted-price r = rw (not-buy r, ap (permitted (m .step)) (none-there (nand-T (restricted m (e .mark)) (ltb 0 (m .bid)) n)), permitted-none (m .step))
       where
         none-there : T (not (restricted m (e .mark))) ⊎ T (not (ltb 0 (m .bid))) → m.bid ≡ 0
         none-there (inl x) = absurd (T-not (restricted m (e .mark)) x r)
@@ -93,15 +93,15 @@ module _ (m : Market) (stamp : ℕ) (e : Entry) (z : e.price ≡ 0) where
     immediate = record { order = immediate-order; price = immediate-price }
 
 pub market-orders-work : MarketOrdersWork
-market-orders-work m stamp e z = (follows m stamp e z, immediate m stamp e z)
+market-orders-work m is stamp e z = (follows m is stamp e z, immediate m is stamp e z)
 
 -- what each turn of the pass keeps, the pass keeps
 
 module _ (m : Market) (n : ℕ) (I : List Order → Type 0) where
   abbrev KeptByTurn : Type 0
-  KeptByTurn = (x : Order) (os : List Order) (s : ℕ) → List·Memᴰ x os → SoundBook n s os → I os → I ((afterMove (moveInPass m x) x os s) .orders)
+  KeptByTurn = (x : Order) (os : List Order) (s : ℕ) → List·Memᴰ x os → SoundBook (m .step) n s os → I os → I ((afterMove (moveInPass m x) x os s) .orders)
 
-  passOver-turns : T (isBid (m .bid)) → KeptByTurn → (is : List ℕ) (os : List Order) (s : ℕ) → SoundBook n s os → I os → I ((passOver m is os s) .orders)
+  passOver-turns : HasPermitted m → KeptByTurn → (is : List ℕ) (os : List Order) (s : ℕ) → SoundBook (m .step) n s os → I os → I ((passOver m is os s) .orders)
   unfolding passOver passOne
   passOver-turns t k [] os s b h = h
   passOver-turns t k (i ∷ is) os s b h =
@@ -112,9 +112,9 @@ module _ (m : Market) (n : ℕ) (I : List Order → Type 0) where
       turn none f = h
       turn (some x) f = k x os s (f .0) b h
 
-thePass-turns : (m : Market) (v : Venue) (I : List Order → Type 0) → T (isBid (m .bid)) → SoundVenue v → KeptByTurn m (v .lastId) I → I (v .orders) → I ((thePass m v) .orders)
+thePass-turns : (m : Market) (v : Venue) (I : List Order → Type 0) → HasPermitted m → SoundBook (m .step) (v .lastId) (v .lastStamp) (v .orders) → KeptByTurn m (v .lastId) I → I (v .orders) → I ((thePass m v) .orders)
 unfolding thePass
-thePass-turns m v I t g k h = passOver-turns m (v .lastId) I t k (map idOf (v .orders)) (v .orders) (v .lastStamp) (g .book) h
+thePass-turns m v I t b k h = passOver-turns m (v .lastId) I t k (map idOf (v .orders)) (v .orders) (v .lastStamp) b h
 
 -- the flag is kept
 
@@ -123,7 +123,7 @@ abbrev Flagged : ℕ → Bool → Order → Type 0
 Flagged i flag x = x.id ≡ i → x.market ≡ flag
 
 module _ (i : ℕ) (flag : Bool) where
-  afterMove-flagged : {n : ℕ} (x : Order) (os : List Order) (s : ℕ) (y : Move) → List·Memᴰ x os → SoundBook n s os → All (Flagged i flag) os → All (Flagged i flag) ((afterMove y x os s) .orders)
+  afterMove-flagged : {step n : ℕ} (x : Order) (os : List Order) (s : ℕ) (y : Move) → List·Memᴰ x os → SoundBook step n s os → All (Flagged i flag) os → All (Flagged i flag) ((afterMove y x os s) .orders)
   unfolding afterMove
   afterMove-flagged x os s Stay h b f = f
   afterMove-flagged x os s Cancel h b f = without-all (Flagged i flag) (x .id) os f
@@ -131,16 +131,16 @@ module _ (i : ℕ) (flag : Bool) where
       let d : Distinct os = book-distinct b in
       work-all (Flagged i flag) (λ z q k. k) _ (without (x .id) os) (without-differ idOf (x .id) os d) (taken-all (Flagged i flag) (mem-taken h d) f .0) (without-all (Flagged i flag) (x .id) os f)
 
-  thePass-flagged : (m : Market) (v : Venue) → T (isBid (m .bid)) → SoundVenue v → All (Flagged i flag) (v .orders) → All (Flagged i flag) ((thePass m v) .orders)
-  thePass-flagged m v t g f = thePass-turns m v (All (Flagged i flag)) t g (λ x os s h b k. afterMove-flagged x os s (moveInPass m x) h b k) f
+  thePass-flagged : (m : Market) (v : Venue) → HasPermitted m → SoundBook (m .step) (v .lastId) (v .lastStamp) (v .orders) → All (Flagged i flag) (v .orders) → All (Flagged i flag) ((thePass m v) .orders)
+  thePass-flagged m v t b f = thePass-turns m v (All (Flagged i flag)) t b (λ x os s h c k. afterMove-flagged x os s (moveInPass m x) h c k) f
 
   effectOf-flagged : (v : Venue) (e : Event) → i ≤ v.lastId → Allowed v e → SoundVenue v → All (Flagged i flag) (v .orders) → All (Flagged i flag) ((effectOf (marketAfter e (v .market)) v e) .orders)
   unfolding effectOf entering effectOfEntry orderOf effectOfCancel effectOfDayEnd
   effectOf-flagged v (entry e) l a g f =
       work-all (Flagged i flag) (λ z q k. k) _ (v .orders) (book-distinct (g .book)) (λ z. absurd (omega (arith, a .place .newId))) f
   effectOf-flagged v (cancel j) l a g f = without-all (Flagged i flag) j (v .orders) f
-  effectOf-flagged v (bid b) l a g f = thePass-flagged _ v a g f
-  effectOf-flagged v (tape p) l a g f = thePass-flagged _ v (g .market .bid) g f
+  effectOf-flagged v (bid b) l a g f = thePass-flagged _ v (g .market .step, a) (g .book) f
+  effectOf-flagged v (tape p) l a g f = thePass-flagged _ v (market-permits (g .market)) (g .book) f
   effectOf-flagged v (dayEnd c) l a g f = tt
 
 -- what was found under an id rests, with that id
@@ -209,23 +209,23 @@ module _ (m : Market) (noBid : m.bid ≡ 0) (n : ℕ) (o : Order) (said : T (o .
   unfolding afterMove
   turn-stays x os s e b h = go (ℕ-discrete (o .id) (x .id))
     where
-      rests : MayRest n s o
+      rests : MayRest (m .step) n s o
       rests = book-order b h
 
       own : o ≡ x → moveInPass m x ≡ Stay
-      own z = by-test (λ (y : Move). y ≡ Stay) _ (λ r. subst (λ (y : Order). moveOf m y ≡ Stay) z (stays (legal-positive (o .price) (rests .works .price)))) (λ r. refl)
+      own z = by-test (λ (y : Move). y ≡ Stay) _ (λ r. subst (λ (y : Order). moveOf m y ≡ Stay) z (stays (legal-positive (m .step) (o .price) (rests .works .price)))) (λ r. refl)
 
       go : Dec (o.id ≡ x.id) → List·Memᴰ o ((afterMove (moveInPass m x) x os s) .orders)
       go (yes z) = subst (λ (y : Move). List·Memᴰ o ((afterMove y x os s) .orders)) (sym (own (same-id h e (book-distinct b) z))) h
       go (no z) =
-          afterMove-mem o x os s (moveInPass m x) z (by-test (OfShort x) _ (λ r. ofShort x (restricted-mark m (x .mark) r) (moveOf m x)) (λ r. tt)) (market-short o said (rests .works .fields) .0) (book-distinct b) h
+          afterMove-mem o x os s (moveInPass m x) z (by-test (OfShort x) _ (λ r. ofShort x (restricted-mark m (x .mark) r) (moveOf m x)) (λ r. tt)) (market-short (m .step) o said (rests .works .fields) .0) (book-distinct b) h
 
 effectOf-stays : (v : Venue) (e : Event) (o : Order) → T (runsPass e) → (marketAfter e (v .market)) .bid ≡ 0 → Allowed v e → SoundVenue v → T (o .market) → List·Memᴰ o (v .orders) → List·Memᴰ o ((effectOf (marketAfter e (v .market)) v e) .orders)
 unfolding effectOf
 effectOf-stays v (entry e) o q z a g said h = absurd q
 effectOf-stays v (cancel i) o q z a g said h = absurd q
-effectOf-stays v (bid b) o q z a g said h = thePass-turns _ v (List·Memᴰ o) a g (turn-stays _ z (v .lastId) o said) h
-effectOf-stays v (tape p) o q z a g said h = thePass-turns _ v (List·Memᴰ o) (g .market .bid) g (turn-stays _ z (v .lastId) o said) h
+effectOf-stays v (bid b) o q z a g said h = thePass-turns _ v (List·Memᴰ o) (g .market .step, a) (g .book) (turn-stays _ z (v .lastId) o said) h
+effectOf-stays v (tape p) o q z a g said h = thePass-turns _ v (List·Memᴰ o) (market-permits (g .market)) (g .book) (turn-stays _ z (v .lastId) o said) h
 effectOf-stays v (dayEnd c) o q z a g said h = absurd q
 
 stepUnless-stays : (x : Option ℕ) (v : Venue) (e : Event) (buffer : ℕ) → Unless x (NotRefused v e buffer) → T (runsPass e) → (marketAfter e (v .market)) .bid ≡ 0 → (i : ℕ) (o : Order) → find i (v .orders) ≡ some o → T (o .market) → find i ((stepUnless x v e) .venue .orders) ≡ some o

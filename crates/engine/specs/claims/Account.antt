@@ -66,9 +66,9 @@ noTallies =
       fills = [];
     }
 
--- "It starts with phase 0, bid 0 and no tallies"
-abbrev pub freshAccount : ℕ → Account
-freshAccount close = record { market = openingMarket close; tallies = noTallies }
+-- "It starts with phase 0, bid 0 and no tallies"; the market has the step given to open, s, which nothing here reads
+abbrev pub freshAccount : ℕ → ℕ → Account
+freshAccount s close = record { market = openingMarket s close; tallies = noTallies }
 
 -- "An accepted entry starts a tally for its id: mark, show, shares entered, executed 0, cancelled 0"
 abbrev pub startTally : Entry → Tallies → Tallies
@@ -169,6 +169,6 @@ accountAfter a e (gives rs) =
 abbrev pub accountFrom : Account → List Answered → Account
 accountFrom a xs = foldl (λ (b : Account) (x : Answered). accountAfter b (x .event) (x .answer)) a xs
 
--- the account of a close and of events with their answers
-abbrev pub accountOf : ℕ → List Answered → Account
-accountOf close xs = accountFrom (freshAccount close) xs
+-- the account of a step and a close, and of events with their answers
+abbrev pub accountOf : ℕ → ℕ → List Answered → Account
+accountOf s close xs = accountFrom (freshAccount s close) xs

@@ -7,7 +7,7 @@ use lib.Dec.{T}
 use lib.ListN.{length, getD, take}
 use Rattle.numbers.specs.Tests.{All}
 use Rattle.numbers.specs.Answers.{Outcome, gives, refuses}
-use Rattle.prices.specs.Prices.{legal}
+use Rattle.prices.specs.Prices.{isStep, legal}
 use Rattle.book.specs.rules.Words.{headerWords, venueWords, resting, isBook}
 use Rattle.engine.specs.declared.Event.{Event}
 use Rattle.engine.specs.declared.OpenAnswer.{OpenAnswer}
@@ -24,13 +24,13 @@ use Rattle.engine.specs.rules.Layout.{venueOf, outcomeOfOpen, openedWord
 
 -- Open
 
-pub record Opens (close : ℕ) (answer : OpenAnswer) (words : List ℕ) : Type 0 where
-  pub answers : outcomeOfOpen answer words ≡ opening close
-  pub is : words ≡ openedWords close
+pub record Opens (s close : ℕ) (answer : OpenAnswer) (words : List ℕ) : Type 0 where
+  pub answers : outcomeOfOpen answer words ≡ opening s close
+  pub is : words ≡ openedWords s close
 
 -- Apply
 
--- what no event changes: the length, the spare words and the number of the layout, the words behind the venue
+-- what no event changes: the length, the step, the spare words and the number of the layout, the words behind the venue
 pub record SameSpare (w w′ : List ℕ) : Type 0 where
   pub size : length w′ ≡ length w
   pub spare : (j : ℕ) → 7 ≤ j → j < headerWords → getD w′ j 0 ≡ getD w j 0
@@ -74,20 +74,20 @@ abbrev pub answeredOf : AppliedCall → Option Answered
 answeredOf c = readOf (c .event) (c .after) (c .answer)
 
 -- each call can be read, and what the account makes of the events, the answers and the report bytes is lawful
-pub record LawfulCalls (close : ℕ) (cs : List AppliedCall) (w′ : List ℕ) : Type 0 where
+pub record LawfulCalls (s close : ℕ) (cs : List AppliedCall) (w′ : List ℕ) : Type 0 where
   pub read : List Answered
   pub readable : map answeredOf cs ≡ map some read
-  pub lawful : Lawful (accountOf close read) (map restingOf (resting w′))
+  pub lawful : Lawful (accountOf s close read) (map restingOf (resting w′))
 
--- Demand 3 of the calls: for every close that open takes and every chain of calls from the words that open gives
+-- Demand 3 of the calls: for every step and close that open takes and every chain of calls from the words that open gives
 abbrev pub Demand3OfCalls : Type 0
 Demand3OfCalls =
-    (close : ℕ) → T (legal close) → (cs : List AppliedCall) (w′ : List ℕ) → Chain (openedWords close) cs w′ → LawfulCalls close cs w′
+    (s close : ℕ) → T (isStep s) → T (legal s close) → (cs : List AppliedCall) (w′ : List ℕ) → Chain (openedWords s close) cs w′ → LawfulCalls s close cs w′
 
 -- no venue reached by calls from open gets 16
 abbrev pub NoCallGets16 : Type 0
 NoCallGets16 =
-    (close : ℕ) → T (legal close) → (cs : List AppliedCall) (w : List ℕ) → Chain (openedWords close) cs w →
+    (s close : ℕ) → T (isStep s) → T (legal s close) → (cs : List AppliedCall) (w : List ℕ) → Chain (openedWords s close) cs w →
     (e : Event) (b : List ℕ) (answer : Outcome ℕ) (w′ b′ : List ℕ) → Applied w e b answer w′ b′ → answer ≡ refuses 16 → ⊥
 
 -- what a call gives besides the answer: the report bytes
@@ -98,7 +98,7 @@ bytesGot after (refuses n) = []
 abbrev pub reportsGot : AppliedCall → List ℕ
 reportsGot c = bytesGot (c .after) (c .answer)
 
--- equal events, equal reports: two chains from the same close with the same events, whose buffers are long enough and hold anything, get equal
+-- equal events, equal reports: two chains from the same step and close with the same events, whose buffers are long enough and hold anything, get equal
 -- answers and equal report bytes, and leave equal venues
 abbrev pub LongEnough : AppliedCall → Type 0
 LongEnough c = leastBuffer ≤ length (c .lent)
@@ -110,6 +110,6 @@ pub record SameForBoth (cs ds : List AppliedCall) (w v : List ℕ) : Type 0 wher
 
 abbrev pub EqualReports : Type 0
 EqualReports =
-    (close : ℕ) (cs ds : List AppliedCall) (w v : List ℕ) → Chain (openedWords close) cs w → Chain (openedWords close) ds v →
+    (s close : ℕ) (cs ds : List AppliedCall) (w v : List ℕ) → Chain (openedWords s close) cs w → Chain (openedWords s close) ds v →
     map (λ (c : AppliedCall). c .event) cs ≡ map (λ (c : AppliedCall). c .event) ds → All LongEnough cs → All LongEnough ds →
     SameForBoth cs ds w v

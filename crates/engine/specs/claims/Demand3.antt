@@ -65,10 +65,10 @@ pub record Lawful (a : Account) (rs : List Resting) : Type 0 where
   pub shares : (k : ℕ) → a.tallies.entered k ≡ a.tallies.executed k + a.tallies.cancelled k + sharesLeft k rs
   pub lastGiven : All (λ (r : Resting). r.price ≡ a.tallies.lastGiven (r .id)) rs
 
--- for every close that open takes and every list of events, each lent a report buffer of any length, the account being fed the close, the
--- events and their answers
+-- for every step and close that open takes and every list of events, each lent a report buffer of any length, the account being fed the step, the
+-- close, the events and their answers
 abbrev pub Demand3 : Type 0
 Demand3 =
-    (close : ℕ) (v : Venue) → opening close ≡ gives v → (cs : List Call) →
+    (s close : ℕ) (v : Venue) → opening s close ≡ gives v → (cs : List Call) →
     let r : Run = run v cs in
-    Lawful (accountOf close (r .answered)) (map restingOf (r .venue .orders))
+    Lawful (accountOf s close (r .answered)) (map restingOf (r .venue .orders))

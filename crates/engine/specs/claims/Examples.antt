@@ -1,4 +1,4 @@
--- Document 01, "Twelve sums, and one day", and a day of market orders, as statements about the definitions. Assumes nothing.
+-- Document 01, "Twelve sums, and one day", a day of market orders and one at a step of 50, as statements about the definitions. Assumes nothing.
 use Prim.Native.Nat.{ℕ}
 use mathlib.Core.Path.{_≡_}
 use mathlib.Core.Bool.{Bool, not}
@@ -7,7 +7,7 @@ use lib.Dec.{T, eqb}
 use Rattle.numbers.specs.Tests.{conj}
 use Rattle.numbers.specs.Answers.{Outcome, gives, refuses}
 use Rattle.numbers.specs.SevenBit.{byteCount}
-use Rattle.prices.specs.Prices.{permitted}
+use Rattle.prices.specs.Prices.{isBid, permitted}
 use Rattle.prices.specs.Restriction.{triggers}
 use Rattle.engine.specs.declared.Event.{Event}
 use Rattle.engine.specs.declared.Event.the-variants.{Entry as entry, Cancel as cancel, Bid as bid, Tape as tape, DayEnd as dayEnd}
@@ -19,12 +19,20 @@ use Rattle.engine.specs.rules.Run.{Call, Answered, run}
 -- "Shown together by one check of the definitions"
 abbrev pub twelveSums : List Bool
 twelveSums =
-    eqb (permitted 9_998) 9_999 ∷ eqb (permitted 9_999) 10_000 ∷ eqb (permitted 10_000) 10_100 ∷ eqb (permitted 99_999_900) 100_000_000
+    eqb (permitted 100 9_998) 9_999 ∷ eqb (permitted 100 9_999) 10_000 ∷ eqb (permitted 100 10_000) 10_100 ∷ eqb (permitted 100 99_999_900) 100_000_000
     ∷ triggers 100_000 90_000 ∷ not (triggers 100_000 90_100) ∷ triggers 9_999 8_999 ∷ not (triggers 9_999 9_000)
     ∷ eqb (byteCount 0) 1 ∷ eqb (byteCount 127) 1 ∷ eqb (byteCount 128) 2 ∷ eqb (byteCount 16_384) 3 ∷ []
 
 abbrev pub TwelveSums : Type 0
 TwelveSums = T (conj twelveSums)
+
+-- four of their kind at a step of 50 (No. 2)
+abbrev pub halfCentSums : List Bool
+halfCentSums =
+    eqb (permitted 50 9_999) 10_000 ∷ eqb (permitted 50 10_000) 10_050 ∷ eqb (permitted 50 99_999_950) 100_000_000 ∷ not (isBid 50 100_000_000) ∷ []
+
+abbrev pub HalfCentSums : Type 0
+HalfCentSums = T (conj halfCentSums)
 
 -- the events of the day that opens at 100,000
 abbrev pub entryOf : ℕ → ℕ → ℕ → ℕ → ℕ → ℕ → ℕ → Event
@@ -51,9 +59,12 @@ dayReports =
 abbrev pub callOf : Event → Call
 callOf e = record { event = e; buffer = leastBuffer }
 
--- the answers to events from a venue opened at 100,000, and the last of them
+-- the answers to events from a venue opened with the step s and the close 100,000; those at a step of 100, and the last of them
+abbrev pub answersAt : ℕ → List Event → List (Outcome (List Report))
+answersAt s es = map (λ (x : Answered). x .answer) ((run (opened s 100_000) (map callOf es)) .answered)
+
 abbrev pub answersTo : List Event → List (Outcome (List Report))
-answersTo es = map (λ (x : Answered). x .answer) ((run (opened 100_000) (map callOf es)) .answered)
+answersTo es = answersAt 100 es
 
 abbrev pub lastAnswerTo : List Event → Outcome (List Report)
 lastAnswerTo es = foldl (λ (before : Outcome (List Report)) (x : Outcome (List Report)). x) (refuses 0) (answersTo es)
@@ -90,7 +101,29 @@ marketDayReports =
     ∷ (accepted 8 9 1 ∷ tradeOf 7 8 90_000 10 ∷ cancelled 8 20 2 ∷ [])
     ∷ []
 
--- the one day, for each of "Slides gone wrong" events and what the last of them reports, and market orders
+-- a day at a step of 50 (No. 2), and the answer to each event: prices and bids of half a cent, the border, and the highest bid
+abbrev pub halfCentEvents : List Event
+halfCentEvents =
+    restrictedDay (entryOf 1 2 90_550 500 1 0 0 ∷ bid 90_750 ∷ bid 90_250 ∷ entryOf 2 0 90_555 100 1 0 0 ∷ bid 9_999 ∷ bid 10_000 ∷ bid 99_999_950
+    ∷ bid 100_000_000 ∷ tape 10_050 ∷ tape 10_025 ∷ [])
+
+abbrev pub halfCentAnswers : List (Outcome (List Report))
+halfCentAnswers =
+    gives []
+    ∷ gives (restrictionStarts ∷ [])
+    ∷ gives (accepted 1 1 91_050 ∷ [])
+    ∷ gives (repriced 1 90_800 2 ∷ [])
+    ∷ gives (repriced 1 90_550 3 ∷ [])
+    ∷ refuses 3
+    ∷ gives []
+    ∷ gives []
+    ∷ gives []
+    ∷ refuses 3
+    ∷ gives []
+    ∷ refuses 3
+    ∷ []
+
+-- the one day, for each of "Slides gone wrong" events and what the last of them reports, market orders, and half cents
 pub record Played : Type 0 where
   pub theDay : answersTo dayEvents ≡ map gives dayReports
   -- "Re-pricing a clear displayed order when the bid rises over it. It stays and may trade there."
@@ -112,3 +145,4 @@ pub record Played : Type 0 where
   pub bidOfOne : lastAnswerTo (restrictedDay (entryOf 1 2 0 5 1 0 0 ∷ bid 1 ∷ [])) ≡ gives (repriced 1 2 2 ∷ [])
   -- with no bid an order with slide once isn't used up: it goes to its entry bid when a bid comes back
   pub onceKept : lastAnswerTo (restrictedDay (entryOf 1 2 0 5 1 0 1 ∷ bid 0 ∷ bid 90_500 ∷ [])) ≡ gives (repriced 1 91_000 2 ∷ [])
+  pub halfCentDay : answersAt 50 halfCentEvents ≡ halfCentAnswers

@@ -7,7 +7,7 @@ use mathlib.Core.Option.{Option, none, some}
 use lib.Dec.{T, leb, ltb, eqb}
 use Rattle.numbers.specs.Tests.{pick}
 use Rattle.numbers.specs.Answers.{Outcome}
-use Rattle.prices.specs.Prices.{highest, legal}
+use Rattle.prices.specs.Prices.{highest, isStep, legal}
 use Rattle.book.specs.declared.Order.{Order}
 use Rattle.book.specs.rules.Orders.{find}
 use Rattle.book.specs.rules.Sound.{mostShares}
@@ -31,9 +31,9 @@ use Rattle.engine.specs.claims.Calls.{Applied}
 -- Before No. 1: what document 01 has in place of each part that No. 1 changes
 
 -- the terms of an entry: "3 price not legal; 4 shares"
-abbrev pub termsBefore : ℕ → ℕ → Option ℕ
-termsBefore price shares =
-    refuseUnless (legal price) 3
+abbrev pub termsBefore : ℕ → ℕ → ℕ → Option ℕ
+termsBefore s price shares =
+    refuseUnless (legal s price) 3
     (refuseUnless (leb 1 shares) 4
     (refuseUnless (leb shares mostShares) 4
     none))
@@ -95,7 +95,7 @@ pub record Immediate (m : Market) (stamp : ℕ) (e : Entry) : Type 0 where
 
 abbrev pub MarketOrdersWork : Type 0
 MarketOrdersWork =
-    (m : Market) (stamp : ℕ) (e : Entry) → e.price ≡ 0 →
+    (m : Market) → T (isStep (m .step)) → (stamp : ℕ) (e : Entry) → e.price ≡ 0 →
     let t : Bool = restricted m (e .mark) && ltb 0 (m .bid) in
     (T t → MarketShort m stamp e) × (T (not t) → Immediate m stamp e)
 
@@ -136,7 +136,7 @@ MovesAsBefore = (m : Market) (o : Order) → T (not (o .market && eqb (m .bid) 0
 
 -- an entry with a price other than 0 is refused as before, and reports and leaves what it did before
 pub record EntryAsBefore (v : Venue) (e : Entry) : Type 0 where
-  pub refusal : refusalOfKind v (entry e) ≡ firstOf (termsBefore (e .price) (e .shares)) (firstOf (refusalOfCodes e) (refusalOfPlace v (e .id)))
+  pub refusal : refusalOfKind v (entry e) ≡ firstOf (termsBefore (v.market.step) (e .price) (e .shares)) (firstOf (refusalOfCodes e) (refusalOfPlace v (e .id)))
   pub effect : effectOfEntry (v .market) v e ≡ effectBefore (v .market) v e
 
 abbrev pub EntriesAsBefore : Type 0

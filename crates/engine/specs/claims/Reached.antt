@@ -14,13 +14,13 @@ use Rattle.engine.specs.rules.Records.{reportsBytes}
 -- "No venue reached from open gets 16", whatever comes next
 abbrev pub ReachedIsSound : Type 0
 ReachedIsSound =
-    (close : ℕ) (v : Venue) → opening close ≡ gives v → (cs : List Call) (e : Event) (buffer : ℕ) →
+    (s close : ℕ) (v : Venue) → opening s close ≡ gives v → (cs : List Call) (e : Event) (buffer : ℕ) →
     step ((run v cs) .venue) e buffer .answer ≡ refuses 16 → ⊥
 
 -- "last stamp at most 256 × accepted events"
 abbrev pub StampsBounded : Type 0
 StampsBounded =
-    (close : ℕ) (v : Venue) → opening close ≡ gives v → (cs : List Call) →
+    (s close : ℕ) (v : Venue) → opening s close ≡ gives v → (cs : List Call) →
     let w : Venue = (run v cs) .venue in
     w.lastStamp ≤ 256 * w.acceptedEvents
 

@@ -5,7 +5,7 @@ use mathlib.Core.List.{List}
 use lib.ListN.{getD, set, replicate}
 use Rattle.numbers.specs.Tests.{pick}
 use Rattle.numbers.specs.Answers.{Outcome, gives, refuses}
-use Rattle.prices.specs.Prices.{legal}
+use Rattle.prices.specs.Prices.{isStep, legal}
 use Rattle.book.specs.rules.Words.{venueWords, layoutNumber, layoutWord, resting, isBook}
 use Rattle.engine.specs.declared.Event.{Event}
 use Rattle.engine.specs.declared.OpenAnswer.{OpenAnswer}
@@ -15,11 +15,11 @@ use Rattle.engine.specs.rules.Sound.{sound}
 use Rattle.engine.specs.rules.Run.{Step, step}
 use Rattle.engine.specs.rules.Answers.{refusalNumber}
 
--- header words 1 to 6, and the orders; words 7 to 14 are spare, and word 15 is the number of the layout
+-- header words 1 to 7, and the orders; words 8 to 14 are spare, and word 15 is the number of the layout
 unfoldable pub venueOf : List ℕ → Venue
 venueOf w =
     record {
-      market = record { close = getD w 1 0; phase = getD w 2 0; bid = getD w 3 0 };
+      market = record { close = getD w 1 0; phase = getD w 2 0; bid = getD w 3 0; step = getD w 7 0 };
       orders = resting w;
       lastId = getD w 4 0;
       lastStamp = getD w 5 0;
@@ -35,12 +35,12 @@ abbrev pub outcomeOfOpen : OpenAnswer → List ℕ → Outcome Venue
 outcomeOfOpen Fresh words = gives (venueOf words)
 outcomeOfOpen (NotOpened r) words = refuses (refusalNumber r)
 
--- the words of a fresh venue, 0 but for the close and the number of the layout; all 0 where no venue is made
-abbrev pub freshWords : ℕ → List ℕ
-freshWords close = set (set (replicate venueWords 0) 1 close) layoutWord layoutNumber
+-- the words of a fresh venue, 0 but for the close, the step s and the number of the layout; all 0 where no venue is made
+abbrev pub freshWords : ℕ → ℕ → List ℕ
+freshWords s close = set (set (set (replicate venueWords 0) 1 close) 7 s) layoutWord layoutNumber
 
-unfoldable pub openedWords : ℕ → List ℕ
-openedWords close = pick (legal close) (freshWords close) (replicate venueWords 0)
+unfoldable pub openedWords : ℕ → ℕ → List ℕ
+openedWords s close = pick (isStep s && legal s close) (freshWords s close) (replicate venueWords 0)
 
 -- the step of the venue that the words mean; words that are laid out as none are refused with 16
 unfoldable pub stepIn : List ℕ → Event → ℕ → Step

@@ -1,4 +1,5 @@
--- What an event does to close, phase and bid, and who is restricted: document 01, "Restriction" and "Orders". Assumes nothing.
+-- What an event does to close, phase and bid, and who is restricted: document 01, "Restriction" and "Orders", and document 02, No. 2. Assumes
+-- nothing.
 use Prim.Native.Nat.{ℕ}
 use mathlib.Core.Bool.{Bool, _&&_}
 use lib.Dec.{eqb}
@@ -8,22 +9,22 @@ use Rattle.engine.specs.declared.Market.{Market}
 use Rattle.engine.specs.declared.Event.{Event}
 use Rattle.engine.specs.declared.Event.the-variants.{Entry as entry, Cancel as cancel, Bid as bid, Tape as tape, DayEnd as dayEnd}
 
--- "Fresh: phase 0, bid 0"
-abbrev pub openingMarket : ℕ → Market
-openingMarket close = record { close = close; phase = 0; bid = 0 }
+-- "Fresh: phase 0, bid 0"; No. 2: "Opening takes a step"
+abbrev pub openingMarket : ℕ → ℕ → Market
+openingMarket step close = record { close = close; phase = 0; bid = 0; step = step }
 
--- what an accepted event does to the market: "A day end sets the close, sets bid 0"
+-- what an accepted event does to the market: "A day end sets the close, sets bid 0"; none changes the step
 abbrev pub marketAfter : Event → Market → Market
 marketAfter (entry e) m = m
 marketAfter (cancel i) m = m
-marketAfter (bid b) m = record { close = m.close; phase = m.phase; bid = b }
-marketAfter (tape p) m = record { close = m.close; phase = phaseAfterTape (m .close) (m .phase) p; bid = m.bid }
-marketAfter (dayEnd c) m = record { close = c; phase = phaseAfterDayEnd (m .phase); bid = 0 }
+marketAfter (bid b) m = record { close = m.close; phase = m.phase; bid = b; step = m.step }
+marketAfter (tape p) m = record { close = m.close; phase = phaseAfterTape (m .close) (m .phase) p; bid = m.bid; step = m.step }
+marketAfter (dayEnd c) m = record { close = c; phase = phaseAfterDayEnd (m .phase); bid = 0; step = m.step }
 
 -- ""Restricted" means mark 2 while the phase is 1 or 2"
 unfoldable pub restricted : Market → ℕ → Bool
 restricted m mark = restrictionOn (m .phase) && eqb mark 2
 
--- the permitted price of the bid in force
+-- the permitted price of the bid in force, at the venue's step (No. 2)
 unfoldable pub permittedNow : Market → ℕ
-permittedNow m = permitted (m .bid)
+permittedNow m = permitted (m .step) (m .bid)

@@ -1,4 +1,4 @@
--- The refusals of an event, in their order: document 01, "Operations", and document 02, No. 1. Assumes nothing.
+-- The refusals of an event, in their order: document 01, "Operations", and document 02, No. 1 and No. 2. Assumes nothing.
 use Prim.Native.Nat.{ℕ}
 use mathlib.Core.Bool.{Bool, true, false, _||_}
 use mathlib.Core.List.{List, [], _∷_}
@@ -36,10 +36,11 @@ codesInRange e = conj (entryCodes e)
 
 -- the refusals of an entry, in three parts
 
--- its terms: "3 price not legal; 4 shares"; No. 1: "refusal 3 no longer meets an entry price of 0"
-unfoldable pub refusalOfTerms : ℕ → ℕ → Option ℕ
-refusalOfTerms price shares =
-    refuseUnless (isMarket price || legal price) 3
+-- its terms: "3 price not legal; 4 shares"; No. 1: "refusal 3 no longer meets an entry price of 0"; No. 2: prices are
+-- legal at a step
+unfoldable pub refusalOfTerms : ℕ → ℕ → ℕ → Option ℕ
+refusalOfTerms step price shares =
+    refuseUnless (isMarket price || legal step price) 3
     (refuseUnless (leb 1 shares) 4
     (refuseUnless (leb shares mostShares) 4
     none))
@@ -61,13 +62,13 @@ rests none = false
 rests (some o) = true
 
 -- the refusals of each kind of event: an entry's, a cancel's "8 if the id doesn't rest", "3 for a bid that isn't a bid, or a tape price or
--- close that isn't legal"
+-- close that isn't legal", all at the venue's step (No. 2)
 unfoldable pub refusalOfKind : Venue → Event → Option ℕ
-refusalOfKind v (entry e) = firstOf (refusalOfTerms (e .price) (e .shares)) (firstOf (refusalOfCodes e) (refusalOfPlace v (e .id)))
+refusalOfKind v (entry e) = firstOf (refusalOfTerms (v.market.step) (e .price) (e .shares)) (firstOf (refusalOfCodes e) (refusalOfPlace v (e .id)))
 refusalOfKind v (cancel i) = refuseUnless (rests (find i (v .orders))) 8 none
-refusalOfKind v (bid b) = refuseUnless (isBid b) 3 none
-refusalOfKind v (tape p) = refuseUnless (legal p) 3 none
-refusalOfKind v (dayEnd c) = refuseUnless (legal c) 3 none
+refusalOfKind v (bid b) = refuseUnless (isBid (v.market.step) b) 3 none
+refusalOfKind v (tape p) = refuseUnless (legal (v.market.step) p) 3 none
+refusalOfKind v (dayEnd c) = refuseUnless (legal (v.market.step) c) 3 none
 
 -- "16 if the venue record breaks a condition .. Then 1 if the buffer has under 16,384 bytes; 2 if 16,777,215 events were accepted", then
 -- the kind's own; n is the length of the lent report buffer

@@ -1,10 +1,11 @@
--- The venue, and what an accepted event does to it: document 01, "Orders", "Reports" and "Operations". Assumes nothing.
+-- The venue, and what an accepted event does to it: document 01, "Orders", "Reports" and "Operations", and document 02,
+-- No. 1 and No. 2. Assumes nothing.
 use Prim.Native.Nat.{ℕ, _+_}
 use mathlib.Core.List.{List, [], _∷_, _++_, map}
 use lib.Dec.{eqb}
 use Rattle.numbers.specs.Tests.{pick}
 use Rattle.numbers.specs.Answers.{Outcome, gives, refuses}
-use Rattle.prices.specs.Prices.{legal}
+use Rattle.prices.specs.Prices.{legal, atStep}
 use Rattle.book.specs.declared.Order.{Order}
 use Rattle.book.specs.rules.Orders.{restingShares, without}
 use Rattle.engine.specs.declared.Market.{Market}
@@ -25,12 +26,13 @@ pub record Venue : Type 0 where
   pub acceptedEvents : ℕ
 
 -- "Fresh: phase 0, bid 0, no orders, last id, last stamp and accepted events 0"
-unfoldable pub opened : ℕ → Venue
-opened close = record { market = openingMarket close; orders = []; lastId = 0; lastStamp = 0; acceptedEvents = 0 }
+unfoldable pub opened : ℕ → ℕ → Venue
+opened step close = record { market = openingMarket step close; orders = []; lastId = 0; lastStamp = 0; acceptedEvents = 0 }
 
--- "Open takes a close: 3 if it isn't legal; no venue is made"
-unfoldable pub opening : ℕ → Outcome Venue
-opening close = pick (legal close) (gives (opened close)) (refuses 3)
+-- "Open takes a close: 3 if it isn't legal; no venue is made"; No. 2: it "takes a step", and any other than 50 and 100 "is refused with 17, before
+-- the close or price is looked at"
+unfoldable pub opening : ℕ → ℕ → Outcome Venue
+opening step close = atStep step (pick (legal step close) (gives (opened step close)) (refuses 3))
 
 -- What an accepted event reports, and the book after it; m is the market after the event
 

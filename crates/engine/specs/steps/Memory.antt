@@ -5,6 +5,7 @@ use mathlib.Core.List.{List}
 use lib.Dec.{T}
 use lib.ListN.{length, getD}
 use Rattle.numbers.specs.SevenBit.{Put}
+use Rattle.prices.specs.Prices.{isStep}
 use Rattle.book.specs.declared.Order.{Order}
 use Rattle.book.specs.rules.Sound.{idsRise}
 use Rattle.book.specs.rules.Words.{headerWords, venueWords, resting}
@@ -31,6 +32,11 @@ pub record MayJudge (w b : List ℕ) : Type 0 where
 pub record Ordered (w : List ℕ) : Type 0 where
   pub book : Book w
   pub rises : T (idsRise 0 (resting w))
+
+-- words that are a book whose step is one
+pub record HasStep (w : List ℕ) : Type 0 where
+  pub book : Book w
+  pub is : T (isStep (venueOf w .market .step))
 
 -- what no step but the last of an event changes: the length, the header but for the count, the words behind the venue
 pub record SameHeader (w w′ : List ℕ) : Type 0 where

@@ -5,47 +5,50 @@ use Rattle.numbers.proofs.TestLaws.{not-yes, not-no}
 use Rattle.engine.specs.declared.Event.the-variants.{Bid as bid}
 use Rattle.engine.specs.rules.Refusals.{refusalOfKind}
 use Rattle.engine.specs.rules.Layout.{venueOf}
-use Rattle.engine.proofs.refinement.RefuseLaws.{refuse-yes, refuse-no}
+use Rattle.engine.proofs.refinement.RefuseLaws.{words-stepped, refuse-yes, refuse-no}
 use Rattle.engine.proofs.refinement.ApplyLaws.{kind-refused, kind-allowed, kind-may-accept, kind-has-room, kind-accepted}
 use borrow.Author.Needs.{needs}
 use Rattle.engine.proofs.apply.apply_bid.Statement.{statement}
 use Rattle.engine.proofs.apply.apply_bid.Tie as tie
 
-is-bid-requires : tie.Need-is-bid-requires
-is-bid-requires c κs = search needs
+allows-bid-requires : tie.Need-allows-bid-requires
+allows-bid-requires c κs = let s = c .before .before .before in words-stepped (s .args .w .now) (s .pre .sound)
+
+same-length : tie.Need-same-length
+same-length c = search needs
 
 returns : tie.Need-returns
 unfolding refusalOfKind
 returns c =
     let r = c .before in
-    let s = r .before .before .before in
-    kind-refused (bid (s .args .price)) (s .pre) (refuse-no _ _ _ (sym (r .is-bid .ensures) ∙ not-yes (r .is-bid .result) (c .if1 .taken)))
+    let s = r .before .before .before .before in
+    kind-refused (bid (s .args .price)) (s .pre) (refuse-no _ _ _ (sym (r .allows-bid .ensures) ∙ not-yes (r .allows-bid .result) (c .if1 .taken)))
 
 new-bid-requires : tie.Need-new-bid-requires
 unfolding refusalOfKind venueOf
 new-bid-requires c κs =
     let r = c .before .before .before in
-    let s = r .before .before .before in
+    let s = r .before .before .before .before in
     let e = bid (s .args .price) in
-    let h = refuse-yes _ _ _ (sym (r .is-bid .ensures) ∙ not-no (r .is-bid .result) (c .before .before .if1 .left)) in
-    (kind-may-accept e (s .pre) h, kind-allowed e (s .pre) h, kind-has-room e (s .pre) h (omega (arith, r .before .before .slice-known .given 4)))
-
-same-length : tie.Need-same-length
-same-length c = search needs
+    let h = refuse-yes _ _ _ (sym (r .allows-bid .ensures) ∙ not-no (r .allows-bid .result) (c .before .before .if1 .left)) in
+    (kind-may-accept e (s .pre) h, kind-allowed e (s .pre) h, kind-has-room e (s .pre) h (omega (arith, r .before .before .before .slice-known .given 4)))
 
 same-length-2 : tie.Need-same-length-2
 same-length-2 c = search needs
+
+same-length-3 : tie.Need-same-length-3
+same-length-3 c = search needs
 
 returns-2 : tie.Need-returns-2
 unfolding refusalOfKind
 returns-2 c =
     let t = c .before .before .before .before .before .before .before in
     let r = t .before in
-    let s = r .before .before .before in
-    let h = refuse-yes _ _ _ (sym (r .is-bid .ensures) ∙ not-no (r .is-bid .result) (t .if1 .left)) in
+    let s = r .before .before .before .before in
+    let h = refuse-yes _ _ _ (sym (r .allows-bid .ensures) ∙ not-no (r .allows-bid .result) (t .if1 .left)) in
     kind-accepted (bid (s .args .price)) (s .pre) h (c .before .before .before .before .new-bid .ensures)
 
 pub apply-bid-spec : {M : Type 1} → statement M
 apply-bid-spec =
     tie.close
-    (tie.spec is-bid-requires returns new-bid-requires same-length same-length-2 returns-2)
+    (tie.spec allows-bid-requires same-length returns new-bid-requires same-length-2 same-length-3 returns-2)

@@ -4,14 +4,14 @@ use mathlib.Core.Path.{sym, ap, _∙_}
 use Rattle.engine.specs.declared.Event.the-variants.{Entry as entry}
 use Rattle.engine.specs.rules.Answers.{refusedWith}
 use Rattle.engine.specs.rules.Layout.{venueOf}
-use Rattle.engine.proofs.refinement.RefuseLaws.{words-ordered}
+use Rattle.engine.proofs.refinement.RefuseLaws.{words-stepped}
 use Rattle.engine.proofs.refinement.ApplyLaws.{kind-refused, kind-allowed, kind-may-accept, kind-has-room, kind-accepted}
 use borrow.Author.Needs.{needs}
 use Rattle.engine.proofs.apply.apply_entry.Statement.{statement}
 use Rattle.engine.proofs.apply.apply_entry.Tie as tie
 
 entry-refusal-requires : tie.Need-entry-refusal-requires
-entry-refusal-requires c κs = let s = c .before .before .before in words-ordered (s .args .w .now) (s .pre .sound) .book
+entry-refusal-requires c κs = let s = c .before .before .before in words-stepped (s .args .w .now) (s .pre .sound)
 
 enum-known-refusal : tie.Need-enum-known-refusal
 enum-known-refusal c = search needs

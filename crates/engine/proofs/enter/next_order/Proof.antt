@@ -23,7 +23,7 @@ market-requires : tie.Need-market-requires
 market-requires c κs = search needs
 
 order-of-requires : tie.Need-order-of-requires
-order-of-requires c κs = subst (λ (m : Market). T (isBid (m .bid))) (sym (c .market .ensures)) (accept-bid (c .before .before .before .pre))
+order-of-requires c κs = subst (λ (m : Market). T (isBid (m .step) (m .bid))) (sym (c .market .ensures)) (accept-bid (c .before .before .before .pre))
 
 returns : tie.Need-returns
 unfolding venueOf

@@ -17,7 +17,7 @@ same-length : tie.Need-same-length
 same-length c = search needs
 
 returns : tie.Need-returns
-returns c = let s = c .before .before .before .before .before .before .before .before .before .before .before .before .before in market-set (s .args .m) (s .pre) (c .before .before .before .before .before .before .before .before .before .before .set-header-word .ensures) (c .before .before .before .before .before .before .set-header-word2 .ensures) (c .before .before .set-header-word3 .ensures)
+returns c = let s = c .before .before .before .before .before .before .before .before .before .before .before .before .before in market-set (s .args .m) (s .pre .0) (s .pre .1) (c .before .before .before .before .before .before .before .before .before .before .set-header-word .ensures) (c .before .before .before .before .before .before .set-header-word2 .ensures) (c .before .before .set-header-word3 .ensures)
 
 pub set-market-spec : {M : Type 1} → statement M
 set-market-spec =

@@ -3,7 +3,7 @@ use mathlib.Core.Path.{_≡_, ap, _∙_}
 use Rattle.engine.specs.declared.Event.the-variants.{DayEnd as dayEnd}
 use Rattle.engine.specs.rules.Market.{marketAfter}
 use Rattle.engine.specs.rules.Layout.{venueOf}
-use Rattle.engine.proofs.refinement.LeaveLaws.{cancels-fit, ended-fits, emptied-ordered, emptied-in, emptied-accepts, day-done}
+use Rattle.engine.proofs.refinement.LeaveLaws.{cancels-fit, ended-fits, emptied-may-set, emptied-in, emptied-accepts, day-done}
 use borrow.Author.Needs.{needs}
 use Rattle.engine.proofs.leave.end_day.Statement.{statement}
 use Rattle.engine.proofs.leave.end_day.Tie as tie
@@ -42,7 +42,7 @@ set-market-requires c κs =
     let x = s .args .close in
     let m = c .before .before .before .before .before .before .before .before .before .before .before .before .before .before .market-after-day-end in
     let e : m .result ≡ marketAfter (dayEnd x) (venueOf w .market) = m .ensures ∙ ap (marketAfter (dayEnd x)) (c .before .before .before .before .before .before .before .before .before .before .before .before .before .before .before .market .ensures) in
-    emptied-ordered w x (m .result) e (s .pre .0) (c .before .before .before .clear .ensures)
+    emptied-may-set w x (m .result) e (s .pre .0) (c .before .before .before .clear .ensures)
 
 finish-same-requires : tie.Need-finish-same-requires
 finish-same-requires c κs =

@@ -1,5 +1,6 @@
 -- `new_bid`: the market, then the pass. Assumes nothing.
 use mathlib.Core.Path.{_≡_, ap, _∙_}
+use Rattle.engine.specs.declared.Market.{Market}
 use Rattle.engine.specs.declared.Event.the-variants.{Bid as bid}
 use Rattle.engine.specs.rules.Market.{marketAfter}
 use Rattle.engine.specs.rules.Layout.{venueOf}
@@ -15,7 +16,10 @@ market-after-bid-requires : tie.Need-market-after-bid-requires
 market-after-bid-requires c κs = search needs
 
 set-market-requires : tie.Need-set-market-requires
-set-market-requires c κs = search needs
+unfolding venueOf
+set-market-requires c κs =
+    let m = c .before .market-after-bid in
+    (c .before .before .before .before .before .before .pre .0 .ordered, ap (λ (y : Market). y .step) (m .ensures ∙ ap (marketAfter (bid (c .before .before .before .before .before .before .args .bid))) (c .before .before .market .ensures)))
 
 pass-and-finish-requires : tie.Need-pass-and-finish-requires
 pass-and-finish-requires c κs =

@@ -1,4 +1,8 @@
 -- `new_tape`: the report of the restriction, the market, then the pass. Assumes nothing.
+use mathlib.Core.Path.{ap, _∙_}
+use Rattle.engine.specs.declared.Market.{Market}
+use Rattle.engine.specs.declared.Event.the-variants.{Tape as tape}
+use Rattle.engine.specs.rules.Market.{marketAfter}
 use Rattle.engine.proofs.refinement.QuoteLaws.{tape-first, tape-may, tape-done}
 use borrow.Author.Needs.{needs}
 use Rattle.engine.proofs.quote.new_tape.Statement.{statement}
@@ -16,7 +20,10 @@ report-restriction-requires c κs =
     tape-first (s .args .w .now) (s .args .price) (c .before .before .market .result) (c .before .market-after-tape .result) (c .before .before .market .ensures) (c .before .market-after-tape .ensures) (s .args .reports .now) (s .pre .1)
 
 set-market-requires : tie.Need-set-market-requires
-set-market-requires c κs = search needs
+set-market-requires c κs =
+    let after = c .before .before .before .before .before in
+    let s = after .before .before .before .before .before in
+    (s .pre .0 .ordered, ap (λ (y : Market). y .step) (after .market-after-tape .ensures ∙ ap (marketAfter (tape (s .args .price))) (after .before .market .ensures)))
 
 pass-and-finish-requires : tie.Need-pass-and-finish-requires
 pass-and-finish-requires c κs =
