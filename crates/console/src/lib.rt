@@ -1,5 +1,5 @@
 // Plays a stream of events, a close and then event records, and prints each report as a line of kind and fields and "0 n" for refusal n:
-// document 01, "Program `venue`". What is printed is gathered in a buffer and written in large pieces.
+// document 01, "Program `venue`", and document 02, No. 2. What is printed is gathered in a buffer and written in large pieces.
 mod line;
 
 use days::Stop;
@@ -10,25 +10,25 @@ use engine::refusals;
 use records::FieldRead;
 use records::record;
 
-// Plays one input.
-pub fn play(input: &[u8]) {
+// Plays one input in a venue that is opened at a step.
+pub fn play(step: u32, input: &[u8]) {
     let mut space = io::large_buffer();
     let out: &mut [u8] = &mut space;
-    let end = play_close(input, out);
+    let end = play_close(step, input, out);
     line::flush(out, end);
 }
 
 // "a close as one seven-bit number (9, 10 or 12 as in a record, then 3), then records"
-fn play_close(input: &[u8], out: &mut [u8]) -> usize {
+fn play_close(step: u32, input: &[u8], out: &mut [u8]) -> usize {
     match record::read_field(input, 0) {
         FieldRead::Refused(refusal) => line::put_refusal(out, 0, record::refusal_number(refusal)),
-        FieldRead::Field { value, end } => play_day(input, end, value, out),
+        FieldRead::Field { value, end } => play_day(step, input, end, value, out),
     }
 }
 
 // Opens the venue and plays the records behind the close.
-fn play_day(input: &[u8], from: usize, close: u32, out: &mut [u8]) -> usize {
-    let opened = open::open(close);
+fn play_day(step: u32, input: &[u8], from: usize, close: u32, out: &mut [u8]) -> usize {
+    let opened = open::open(step, close);
     let answer = opened.answer;
     match answer {
         OpenAnswer::NotOpened(refusal) => line::put_refusal(out, 0, refusals::number_of(refusal)),

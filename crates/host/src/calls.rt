@@ -38,15 +38,15 @@ fn copy_words(to: &mut [u32], from: &[u32])
     }
 }
 
-// Makes the words a fresh venue, those behind it kept; a refusal changes no word.
+// Makes the words a fresh venue at a step, those behind it kept; a refusal changes no word.
 #[no_mangle]
-pub extern "C" fn venue_open(words: &mut [u32], close: u32) -> u32
-    ensures { λ r. ⌜ HostOpened (now (words .entry)) close r (now (words .exit)) ⌝ }
+pub extern "C" fn venue_open(words: &mut [u32], step: u32, close: u32) -> u32
+    ensures { λ r. ⌜ HostOpened (now (words .entry)) step close r (now (words .exit)) ⌝ }
 {
     if words.len() < words::VENUE {
         return refusals::number_of(Refusal::VenueBroken) * REFUSAL_UNIT;
     }
-    let opened = open::open(close);
+    let opened = open::open(step, close);
     let answer = opened.answer;
     match answer {
         OpenAnswer::NotOpened(refusal) => refusals::number_of(refusal) * REFUSAL_UNIT,
@@ -99,12 +99,13 @@ pub extern "C" fn venue_record_check(bytes: &[u8]) -> u64
     }
 }
 
-// The permitted price of a bid; 0 stands for a refusal.
+// The permitted price of a bid at a step; 0 stands for a refusal.
 #[no_mangle]
-pub extern "C" fn venue_permitted_price(bid: u32) -> u32
-    ensures { λ r. ⌜ r ≡ valueOrZero (permittedOf bid) ⌝ }
+pub extern "C" fn venue_permitted_price(step: u32, bid: u32) -> u32
+    ensures { λ r. ⌜ r ≡ valueOrZero (permittedOf step bid) ⌝ }
 {
-    match increments::permitted_price(bid) {
+    match increments::permitted_price(step, bid) {
+        PermittedAnswer::NotStep => 0,
         PermittedAnswer::NotBid => 0,
         PermittedAnswer::Permitted(price) => price.value,
     }

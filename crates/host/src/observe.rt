@@ -69,13 +69,14 @@ fn watch_number(answer: WatchAnswer) -> u32
     match answer {
         WatchAnswer::Updated => 0,
         WatchAnswer::NotLegal => 3 * calls::REFUSAL_UNIT,
+        WatchAnswer::NotStep => 17 * calls::REFUSAL_UNIT,
     }
 }
 
-// A tape price on the host's own record of close and phase; a refusal leaves it as it was.
+// A tape price at a step on the host's own record of close and phase; a refusal leaves it as it was.
 #[no_mangle]
-pub extern "C" fn venue_watch(watch: &mut Watch, price: u32) -> u32
-    ensures { λ r. ⌜ (r ≡ hostAnswer (watchCount (watchOutcome price))) × (now (watch .exit) ≡ watched (now (watch .entry)) price) ⌝ }
+pub extern "C" fn venue_watch(watch: &mut Watch, step: u32, price: u32) -> u32
+    ensures { λ r. ⌜ (r ≡ hostAnswer (watchCount (watchOutcome step price))) × (now (watch .exit) ≡ watched step (now (watch .entry)) price) ⌝ }
 {
-    watch_number(restriction::watch(watch, price))
+    watch_number(restriction::watch(watch, step, price))
 }

@@ -15,11 +15,11 @@ ghost use Rattle.prices.specs.Watch.{watched, watchOutcome, outcomeOfWatch};
 ghost use Rattle.book.specs.rules.Depth.{depthOf, outcomeOfDepth};
 ghost use Rattle.engine.specs.rules.Copy.{copyOutcome, copied, outcomeOfCopy};
 
-pub fn watch_of(watch: Watch, price: u32) -> WatchSeen
-    ensures { λ r. ⌜ (r .watch ≡ watched watch price) × (outcomeOfWatch (r .answer) ≡ watchOutcome price) ⌝ }
+pub fn watch_of(watch: Watch, step: u32, price: u32) -> WatchSeen
+    ensures { λ r. ⌜ (r .watch ≡ watched step watch price) × (outcomeOfWatch (r .answer) ≡ watchOutcome step price) ⌝ }
 {
     let mut after = watch;
-    let answer = restriction::watch(&mut after, price);
+    let answer = restriction::watch(&mut after, step, price);
     WatchSeen {
         watch: after,
         answer,

@@ -40,30 +40,48 @@ fn print_refusal(number: u64) {
     print(number, b"\n");
 }
 
-fn try_watch(close: u32, phase: u32, price: u32) {
-    let seen = lend::watch_of(Watch { close, phase }, price);
+fn try_watch(step: u32, close: u32, phase: u32, price: u32) {
+    let seen = lend::watch_of(Watch { close, phase }, step, price);
     let answer = seen.answer;
     match answer {
         WatchAnswer::Updated => (),
         WatchAnswer::NotLegal => print_refusal(3),
+        WatchAnswer::NotStep => print_refusal(17),
     }
     let watch = seen.watch;
     print_word(watch.close, b" ");
     print_word(watch.phase, b"\n");
 }
 
+// Numbers that aren't a step, beside a legal and an illegal price.
+fn bad_steps() {
+    try_watch(0, 100_000, 0, 90_000);
+    try_watch(1, 100_000, 0, 90_000);
+    try_watch(49, 100_000, 0, 0);
+    try_watch(75, 100_000, 0, 90_000);
+    try_watch(150, 100_000, 0, 90_000);
+    try_watch(200, 100_000, 0, 90_050);
+    try_watch(4_294_967_295, 100_000, 0, 1);
+}
+
 fn watches() {
     io::write_all(STDOUT_FILENO, b"watch\n");
-    try_watch(100_000, 0, 90_000);
-    try_watch(100_000, 0, 90_100);
-    try_watch(100_000, 1, 50_000);
-    try_watch(100_000, 2, 90_000);
-    try_watch(100_000, 9, 90_000);
-    try_watch(4_294_967_295, 0, 100_000_000);
-    try_watch(1, 0, 1);
-    try_watch(100_000, 0, 90_050);
-    try_watch(100_000, 0, 0);
-    try_watch(100_000, 1, 100_000_100);
+    try_watch(100, 100_000, 0, 90_000);
+    try_watch(100, 100_000, 0, 90_100);
+    try_watch(100, 100_000, 1, 50_000);
+    try_watch(100, 100_000, 2, 90_000);
+    try_watch(100, 100_000, 9, 90_000);
+    try_watch(100, 4_294_967_295, 0, 100_000_000);
+    try_watch(100, 1, 0, 1);
+    try_watch(100, 100_000, 0, 90_050);
+    try_watch(100, 100_000, 0, 0);
+    try_watch(100, 100_000, 1, 100_000_100);
+    try_watch(50, 100_000, 0, 90_000);
+    try_watch(50, 100_000, 0, 90_050);
+    try_watch(50, 100_000, 0, 89_950);
+    try_watch(50, 100_000, 0, 89_975);
+    try_watch(50, 4_294_967_295, 0, 99_999_950);
+    bad_steps();
 }
 
 fn print_record(o: OrderRecord) {
@@ -148,7 +166,7 @@ fn enter(words: &mut [u32], id: u32, mark: u32, price: u32, shares: u32, show: u
 // that are no venue.
 fn copies() -> [OrderRecord; 4] {
     io::write_all(STDOUT_FILENO, b"copy out\n");
-    let opened = open::open(100_000);
+    let opened = open::open(100, 100_000);
     let mut space = opened.words;
     let words: &mut [u32] = &mut space;
     try_copy(words);

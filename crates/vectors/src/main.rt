@@ -1,7 +1,9 @@
-// Plays the files that its arguments name, as program `venue` plays its input, each after a line with its name.
+// Plays the files that its arguments name, each after a line with its name: as program `venue` plays its input, and those behind an argument `50` as
+// program `venue-half` does.
 use libc::STDOUT_FILENO;
+use prices::increments;
 
-fn play_file(name: &[u8]) {
+fn play_file(step: u32, name: &[u8]) {
     io::write_all(STDOUT_FILENO, name);
     io::write_all(STDOUT_FILENO, b"\n");
     let file = os::open_read(name);
@@ -12,20 +14,37 @@ fn play_file(name: &[u8]) {
     let mut input = io::large_buffer();
     let count = io::read_full(file, &mut input);
     libc::close(file);
-    console::play(&input[..count]);
+    console::play(step, &input[..count]);
 }
 
-fn play_argument(i: usize) {
-    let mut name = io::buffer();
-    let length = os::arg(i, &mut name);
-    play_file(&name[..length]);
+// Whether an argument is `50`.
+fn is_half_cent(argument: &[u8]) -> bool {
+    if argument.len() == 2 {
+        if argument[0] == b'5' {
+            return argument[1] == b'0';
+        }
+    }
+    false
+}
+
+// An argument, at the step of the one before it: a step, or a file to play. The result is the step of the next one.
+fn play_argument(step: u32, i: usize) -> u32 {
+    let mut space = io::buffer();
+    let length = os::arg(i, &mut space);
+    let argument = &space[..length];
+    if is_half_cent(argument) {
+        return increments::HALF_CENT;
+    }
+    play_file(step, argument);
+    step
 }
 
 fn main() {
     let count = os::arg_count();
+    let mut step = increments::CENT;
     let mut i = 1;
     while i < count {
-        play_argument(i);
+        step = play_argument(step, i);
         i += 1;
     }
 }

@@ -7,7 +7,7 @@ use lib.Dec.{T}
 use Rattle.numbers.specs.Tests.{All}
 use Rattle.numbers.specs.Answers.{Outcome, gives, refuses, Read}
 use Rattle.numbers.proofs.TestLaws.{T-true, map-all}
-use Rattle.prices.specs.Prices.{legal}
+use Rattle.prices.specs.Prices.{isStep, legal}
 use Rattle.book.specs.rules.Words.{isBook}
 use Rattle.engine.specs.declared.Event.{Event}
 use Rattle.engine.specs.rules.Venue.{opened}
@@ -58,9 +58,9 @@ market-shorts-stay-for-hosts w bytes b answer w′ b′ a r e =
     market-shorts-stay-in-calls w (r .value) b (outcomeOf answer) w′ b′ (x .applied)
 
 pub demand3-of-hosts : Demand3OfHosts
-demand3-of-hosts w close w₀ h cs w′ c =
+demand3-of-hosts w s close w₀ h cs w′ c =
     let f = opened-fresh h in
-    demand3-from close (f .legal) (f .layout) (f .venue) (map appliedCall (eventCalls cs)) w′ (events c)
+    demand3-from s close (f .is) (f .legal) (f .layout) (f .venue) (map appliedCall (eventCalls cs)) w′ (events c)
 
 -- no refusal 16
 
@@ -68,18 +68,18 @@ joined : {w w₁ w′ : List ℕ} {cs ds : List AppliedCall} → Chain w cs w₁
 joined noEvents d = d
 joined (moreEvents h a r) d = moreEvents h a (joined r d)
 
-module _ (close : ℕ) (t : T (legal close)) {w₀ : List ℕ} (u : T (isBook w₀)) (f : venueOf w₀ ≡ opened close) where
+module _ (s close : ℕ) (i : T (isStep s)) (t : T (legal s close)) {w₀ : List ℕ} (u : T (isBook w₀)) (f : venueOf w₀ ≡ opened s close) where
   -- hs are the events so far
   no-16-behind : {w w′ : List ℕ} {hs : List AppliedCall} {cs : List ApplyCall} → Chain w₀ hs w → ApplyChain w cs w′ → All (λ (c : ApplyCall). c .answer ≡ hostAnswer (refuses 16) → ⊥) cs
   no-16-behind d none = tt
   no-16-behind {hs = hs} d (more {w = w} {w₁ = w₁} {c = c} h a r) = (by-record (recordAt (c .bytes) 0) a, no-16-behind (joined d (events (more {c = c} h a none))) r)
     where
       by-record : (x : Outcome (Read Event)) → RecordApplied x w (c .lent) (c .answer) w₁ (c .after) → c .answer ≡ hostAnswer (refuses 16) → ⊥
-      by-record (gives e) b z = no-16-from close t u f hs w d (e .value) (c .lent) _ w₁ (c .after) (b .applied) (outcome-told (refuses 16) (omega arith) z)
+      by-record (gives e) b z = no-16-from s close i t u f hs w d (e .value) (c .lent) _ w₁ (c .after) (b .applied) (outcome-told (refuses 16) (omega arith) z)
       by-record (refuses n) b z = omega (arith, b .answers, b .range .1)
 
 pub no-host-gets-16 : NoHostGets16
-no-host-gets-16 w close w₀ h cs w′ c = let f = opened-fresh h in no-16-behind close (f .legal) (f .layout) (f .venue) noEvents c
+no-host-gets-16 w s close w₀ h cs w′ c = let f = opened-fresh h in no-16-behind s close (f .is) (f .legal) (f .layout) (f .venue) noEvents c
 
 -- equal events
 
@@ -97,7 +97,7 @@ numbers (c ∷ cs) h = by-record (recordAt (c .bytes) 0) (numbers cs (h .1))
     by-record (refuses n) later = later
 
 pub equal-host-reports : EqualHostReports
-equal-host-reports close w v w₀ v₀ h k cs ds w′ v′ c d q l m =
+equal-host-reports step close w v w₀ v₀ h k cs ds w′ v′ c d q l m =
     let f = opened-fresh h in
     let g = opened-fresh k in
     let xs : List EventCall = eventCalls cs in

@@ -205,7 +205,7 @@ pub days-one-by-one : DaysOneByOne
 days-one-by-one w hs w′ c = calls c
 
 pub demand3-of-days : Demand3OfDays
-demand3-of-days w close w₀ h hs w′ c = demand3-of-hosts w close w₀ h (oneByOne hs) w′ (calls c)
+demand3-of-days w s close w₀ h hs w′ c = demand3-of-hosts w s close w₀ h (oneByOne hs) w′ (calls c)
 
 -- the buffers of a day's events are long enough
 
@@ -241,8 +241,8 @@ all-long (play c ∷ hs) h =
     by-test (λ (l : List ApplyCall). Long (eventCalls (l ++ oneByOne hs))) (eqb (c .answer) (hostAnswer (refuses 16))) (λ t. all-long hs h) (λ t. calls-long (getD (c .progress) 0 0) (c .records) (c .from) (c .after) 0 (c .ends) (oneByOne hs) (all-long hs h))
 
 pub equal-day-reports : EqualDayReports
-equal-day-reports close w v w₀ v₀ h k hs gs w′ v′ c d q l m =
-    equal-host-reports close w v w₀ v₀ h k (oneByOne hs) (oneByOne gs) w′ v′ (calls c) (calls d) q (all-long hs l) (all-long gs m)
+equal-day-reports s close w v w₀ v₀ h k hs gs w′ v′ c d q l m =
+    equal-host-reports s close w v w₀ v₀ h k (oneByOne hs) (oneByOne gs) w′ v′ (calls c) (calls d) q (all-long hs l) (all-long gs m)
 
 -- no refusal 16
 
@@ -258,14 +258,14 @@ not-16 {w} t (applied {w₁ = w₁} {c = c} h a r) = let k = by-record (recordAt
     by-record (refuses n) b = (λ z. omega (arith, b .answers, b .range .1, z), rw (b .words) t)
 not-16 t (day p r) = (λ z. subst T (p .is .refused z) t, not-16 (p .is .done .sound t) r)
 
-opened-words-sound : {w w₀ : List ℕ} {close : ℕ} → HostOpened w close 0 w₀ → T (soundWords w₀)
+opened-words-sound : {w w₀ : List ℕ} {s close : ℕ} → HostOpened w s close 0 w₀ → T (soundWords w₀)
 unfolding run
-opened-words-sound {w₀ = w₀} {close = close} h =
+opened-words-sound {w₀ = w₀} {s = s} {close = close} h =
     let f = opened-fresh h in
-    sound-words w₀ (f .layout) (rw (f .venue) (venue-sound (opened close) (reached-sound close (opened close) (opening-gives close (f .legal)) [])))
+    sound-words w₀ (f .layout) (rw (f .venue) (venue-sound (opened s close) (reached-sound s close (opened s close) (opening-gives s close (f .is) (f .legal)) [])))
 
 pub no-day-gets-16 : NoDayGets16
-no-day-gets-16 w close w₀ h hs w′ c = (not-16 (opened-words-sound h) c, no-host-gets-16 w close w₀ h (oneByOne hs) w′ (calls c))
+no-day-gets-16 w s close w₀ h hs w′ c = (not-16 (opened-words-sound h) c, no-host-gets-16 w s close w₀ h (oneByOne hs) w′ (calls c))
 
 -- a day in pieces
 

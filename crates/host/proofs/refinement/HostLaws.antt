@@ -5,6 +5,7 @@ use native.Mathlib.Omega.{arith}
 use native.Mathlib.Numerals.{add-one}
 use mathlib.Core.Path.{_≡_, refl, sym, ap, _∙_, subst}
 use mathlib.Core.Option.{Option, none, some}
+use mathlib.Core.Bool.{_&&_}
 use mathlib.Core.List.{List, _++_}
 use lib.Dec.{T, leb}
 use lib.ListN.{length, getD, take, drop, set, length-replicate}
@@ -13,7 +14,7 @@ use borrow.Author.Tests.{le-leb, lt-leb}
 use Rattle.numbers.specs.Tests.{pick, All}
 use Rattle.numbers.specs.Answers.{Outcome, gives, refuses, Read}
 use Rattle.numbers.proofs.TestLaws.{by-test, tests}
-use Rattle.prices.specs.Prices.{legal}
+use Rattle.prices.specs.Prices.{isStep, legal, atStep}
 use Rattle.book.specs.rules.Words.{venueWords, isBook}
 use Rattle.engine.specs.declared.Event.{Event}
 use Rattle.engine.specs.declared.Refusal.{Refusal}
@@ -75,31 +76,31 @@ front-more w₀ w from k e l h =
 
 -- venue_open
 
-opened-length : (close : ℕ) → length (openedWords close) ≡ venueWords
+opened-length : (s close : ℕ) → length (openedWords s close) ≡ venueWords
 unfolding openedWords
-opened-length close =
-    by-test (λ (w : List ℕ). length w ≡ venueWords) (legal close) (λ t. fresh-length close) (λ t. length-replicate {A = ℕ} venueWords 0)
+opened-length s close =
+    by-test (λ (w : List ℕ). length w ≡ venueWords) (isStep s && legal s close) (λ t. fresh-length s close) (λ t. length-replicate {A = ℕ} venueWords 0)
 
-pub opens-length : {close : ℕ} {answer : OpenAnswer} {words : List ℕ} → Opens close answer words → length words ≡ venueWords
-opens-length {close} o = ap length (o .is) ∙ opened-length close
+pub opens-length : {s close : ℕ} {answer : OpenAnswer} {words : List ℕ} → Opens s close answer words → length words ≡ venueWords
+opens-length {s} {close} o = ap length (o .is) ∙ opened-length s close
 
-pub open-short : (w : List ℕ) (close : ℕ) {n : ℕ} → length w < venueWords → n ≡ hostAnswer (refuses 16) → HostOpened w close n w
+pub open-short : (w : List ℕ) (s close : ℕ) {n : ℕ} → length w < venueWords → n ≡ hostAnswer (refuses 16) → HostOpened w s close n w
 unfolding hostOpening pick
-open-short w close l k = let e = lt-leb venueWords (length w) l in record { answers = rw e k; leaves = rw e }
+open-short w s close l k = let e = lt-leb venueWords (length w) l in record { answers = rw e k; leaves = rw e }
 
-module _ (w : List ℕ) {close : ℕ} {words : List ℕ} {answer : OpenAnswer} (l : venueWords ≤ length w) (o : Opens close answer words) where
-  pub open-refused : {r : Refusal} {n : ℕ} → answer ≡ NotOpened r → n ≡ hostAnswer (refuses (refusalNumber r)) → HostOpened w close n w
+module _ (w : List ℕ) {s close : ℕ} {words : List ℕ} {answer : OpenAnswer} (l : venueWords ≤ length w) (o : Opens s close answer words) where
+  pub open-refused : {r : Refusal} {n : ℕ} → answer ≡ NotOpened r → n ≡ hostAnswer (refuses (refusalNumber r)) → HostOpened w s close n w
   unfolding hostOpening pick
   open-refused {r} {n} h k =
       let e = le-leb venueWords (length w) l in
-      let f : refuses (refusalNumber r) ≡ opening close = rw h at (o .answers) in
+      let f : refuses (refusalNumber r) ≡ opening s close = rw h at (o .answers) in
       record { answers = rw (e, ← f) k; leaves = rw (e, ← f) }
 
-  pub open-fresh : {w′ : List ℕ} → answer ≡ Fresh → w′ ≡ words ++ drop (length words) w → HostOpened w close 0 w′
+  pub open-fresh : {w′ : List ℕ} → answer ≡ Fresh → w′ ≡ words ++ drop (length words) w → HostOpened w s close 0 w′
   unfolding hostOpening pick
   open-fresh h k =
       let e = le-leb venueWords (length w) l in
-      let f : gives (venueOf words) ≡ opening close = rw h at (o .answers) in
+      let f : gives (venueOf words) ≡ opening s close = rw h at (o .answers) in
       record { answers = rw (e, ← f); leaves = rw (e, ← f) (k ∙ rw (opens-length o, o .is)) }
 
 -- venue_apply
@@ -136,18 +137,29 @@ apply-read bytes e a = rw e a
 
 -- the words that venue_open leaves with the answer 0
 
-pub record FreshWords (w₀ : List ℕ) (close : ℕ) : Type 0 where
-  pub legal : T (legal close)
+pub record FreshWords (w₀ : List ℕ) (s close : ℕ) : Type 0 where
+  pub is : T (isStep s)
+  pub legal : T (legal s close)
   pub layout : T (isBook w₀)
-  pub venue : venueOf w₀ ≡ opened close
+  pub venue : venueOf w₀ ≡ opened s close
 
-pub opened-fresh : {w w₀ : List ℕ} {close : ℕ} → HostOpened w close 0 w₀ → FreshWords w₀ close
-unfolding hostOpening opening
-opened-fresh {w} {w₀} {close} h =
-    by-test Known (leb venueWords (length w)) (λ t. by-test (λ (o : Outcome Venue). Known (openCount o)) (legal close) (λ u a l. known u l) (λ u a l. absurd (omega arith))) (λ t a l. absurd (omega arith)) (h .answers) (h .leaves)
+pub opened-fresh : {w w₀ : List ℕ} {s close : ℕ} → HostOpened w s close 0 w₀ → FreshWords w₀ s close
+unfolding hostOpening opening atStep
+opened-fresh {w} {w₀} {s} {close} h =
+    by-test
+    Known
+    (leb venueWords (length w))
+    (λ t. by-test KnownOf (isStep s) (λ i. by-test KnownOf (legal s close) (λ u a l. known i u l) (λ u a l. absurd (omega arith))) (λ i a l. absurd (omega arith)))
+    (λ t a l. absurd (omega arith))
+    (h .answers)
+    (h .leaves)
   where
     Known : Outcome ℕ → Type 0
-    Known o = 0 ≡ hostAnswer o → w₀ ≡ wordsOpened w close o → FreshWords w₀ close
+    Known o = 0 ≡ hostAnswer o → w₀ ≡ wordsOpened w s close o → FreshWords w₀ s close
 
-    known : T (legal close) → w₀ ≡ openedWords close ++ drop venueWords w → FreshWords w₀ close
-    known u l = record { legal = u; layout = rw l (opened-book-with close (drop venueWords w) u); venue = rw l (opened-venue-with close (drop venueWords w) u) }
+    KnownOf : Outcome Venue → Type 0
+    KnownOf o = Known (openCount o)
+
+    known : T (isStep s) → T (legal s close) → w₀ ≡ openedWords s close ++ drop venueWords w → FreshWords w₀ s close
+    known i u l =
+        record { is = i; legal = u; layout = rw l (opened-book-with s close i u (drop venueWords w)); venue = rw l (opened-venue-with s close i u (drop venueWords w)) }

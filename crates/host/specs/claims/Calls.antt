@@ -9,10 +9,10 @@ use Rattle.engine.specs.rules.Records.{recordAt}
 use Rattle.engine.specs.claims.Calls.{Applied}
 use Rattle.host.specs.rules.Host.{hostAnswer, outcomeOf, hostOpening, wordsOpened}
 
--- one call of venue_open: the words w lent to it, the close, the answer, and the words w′ after it
-pub record HostOpened (w : List ℕ) (close answer : ℕ) (w′ : List ℕ) : Type 0 where
-  pub answers : answer ≡ hostAnswer (hostOpening w close)
-  pub leaves : w′ ≡ wordsOpened w close (hostOpening w close)
+-- one call of venue_open: the words w lent to it, the step s, the close, the answer, and the words w′ after it
+pub record HostOpened (w : List ℕ) (s close answer : ℕ) (w′ : List ℕ) : Type 0 where
+  pub answers : answer ≡ hostAnswer (hostOpening w s close)
+  pub leaves : w′ ≡ wordsOpened w s close (hostOpening w s close)
 
 -- a byte count is at most 16,384, a refusal at least 1
 abbrev pub AnswerFits : Outcome ℕ → Type 0

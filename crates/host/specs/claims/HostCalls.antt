@@ -83,16 +83,16 @@ MarketShortsStayForHosts =
 -- demand 3: what the account makes of the record bytes, the numbers and the report bytes is lawful
 abbrev pub Demand3OfHosts : Type 0
 Demand3OfHosts =
-    (w : List ℕ) (close : ℕ) (w₀ : List ℕ) → HostOpened w close 0 w₀ →
-    (cs : List ApplyCall) (w′ : List ℕ) → ApplyChain w₀ cs w′ → LawfulCalls close (map appliedCall (eventCalls cs)) w′
+    (w : List ℕ) (s close : ℕ) (w₀ : List ℕ) → HostOpened w s close 0 w₀ →
+    (cs : List ApplyCall) (w′ : List ℕ) → ApplyChain w₀ cs w′ → LawfulCalls s close (map appliedCall (eventCalls cs)) w′
 
 -- "No venue reached from open gets 16": no call answers 16 × 65,536
 abbrev pub NoHostGets16 : Type 0
 NoHostGets16 =
-    (w : List ℕ) (close : ℕ) (w₀ : List ℕ) → HostOpened w close 0 w₀ →
+    (w : List ℕ) (s close : ℕ) (w₀ : List ℕ) → HostOpened w s close 0 w₀ →
     (cs : List ApplyCall) (w′ : List ℕ) → ApplyChain w₀ cs w′ → All (λ (c : ApplyCall). c .answer ≡ hostAnswer (refuses 16) → ⊥) cs
 
--- equal events, equal reports: two chains with the same close whose records read as the same events, others that can't be read standing anywhere
+-- equal events, equal reports: two chains with the same step and close whose records read as the same events, others that can't be read standing anywhere
 -- between, and whose buffers are long enough and hold anything, get equal numbers and equal report bytes for the events, and leave equal venues
 abbrev pub LongBuffer : EventCall → Type 0
 LongBuffer c = leastBuffer ≤ length (c .call .lent)
@@ -104,7 +104,7 @@ pub record SameForHosts (cs ds : List EventCall) (w v : List ℕ) : Type 0 where
 
 abbrev pub EqualHostReports : Type 0
 EqualHostReports =
-    (close : ℕ) (w v w₀ v₀ : List ℕ) → HostOpened w close 0 w₀ → HostOpened v close 0 v₀ →
+    (s close : ℕ) (w v w₀ v₀ : List ℕ) → HostOpened w s close 0 w₀ → HostOpened v s close 0 v₀ →
     (cs ds : List ApplyCall) (w′ v′ : List ℕ) → ApplyChain w₀ cs w′ → ApplyChain v₀ ds v′ →
     map (λ (c : EventCall). c .event) (eventCalls cs) ≡ map (λ (c : EventCall). c .event) (eventCalls ds) →
     All LongBuffer (eventCalls cs) → All LongBuffer (eventCalls ds) →

@@ -96,8 +96,8 @@ DaysOneByOne = (w : List ℕ) (hs : List HostCall) (w′ : List ℕ) → HostCha
 -- demand 3 of days and events in any order: what the account makes of the record bytes, the numbers, the report bytes and the ends is lawful
 abbrev pub Demand3OfDays : Type 0
 Demand3OfDays =
-    (w : List ℕ) (close : ℕ) (w₀ : List ℕ) → HostOpened w close 0 w₀ →
-    (hs : List HostCall) (w′ : List ℕ) → HostChain w₀ hs w′ → LawfulCalls close (map appliedCall (eventCalls (oneByOne hs))) w′
+    (w : List ℕ) (s close : ℕ) (w₀ : List ℕ) → HostOpened w s close 0 w₀ →
+    (hs : List HostCall) (w′ : List ℕ) → HostChain w₀ hs w′ → LawfulCalls s close (map appliedCall (eventCalls (oneByOne hs))) w′
 
 abbrev pub answerOf : HostCall → ℕ
 answerOf (apply c) = c.answer
@@ -106,7 +106,7 @@ answerOf (play c) = c.answer
 -- "No venue reached from open gets 16": no call answers it, and no event of a played day is told it
 abbrev pub NoDayGets16 : Type 0
 NoDayGets16 =
-    (w : List ℕ) (close : ℕ) (w₀ : List ℕ) → HostOpened w close 0 w₀ →
+    (w : List ℕ) (s close : ℕ) (w₀ : List ℕ) → HostOpened w s close 0 w₀ →
     (hs : List HostCall) (w′ : List ℕ) → HostChain w₀ hs w′ →
     All (λ (h : HostCall). answerOf h ≡ hostAnswer (refuses 16) → ⊥) hs × All (λ (c : ApplyCall). c .answer ≡ hostAnswer (refuses 16) → ⊥) (oneByOne hs)
 
@@ -118,7 +118,7 @@ appliedOnly (play c ∷ hs) = appliedOnly hs
 
 abbrev pub EqualDayReports : Type 0
 EqualDayReports =
-    (close : ℕ) (w v w₀ v₀ : List ℕ) → HostOpened w close 0 w₀ → HostOpened v close 0 v₀ →
+    (s close : ℕ) (w v w₀ v₀ : List ℕ) → HostOpened w s close 0 w₀ → HostOpened v s close 0 v₀ →
     (hs gs : List HostCall) (w′ v′ : List ℕ) → HostChain w₀ hs w′ → HostChain v₀ gs v′ →
     map (λ (c : EventCall). c .event) (eventCalls (oneByOne hs)) ≡ map (λ (c : EventCall). c .event) (eventCalls (oneByOne gs)) →
     All LongBuffer (eventCalls (appliedOnly hs)) → All LongBuffer (eventCalls (appliedOnly gs)) →

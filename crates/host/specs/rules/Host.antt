@@ -1,5 +1,5 @@
--- The calls of a host program: open, the event, the record check and the permitted price of document 01, each answered by one number.
--- Assumes nothing.
+-- The calls of a host program: open, the event, the record check and the permitted price of document 01 and document 02, No. 2, each
+-- answered by one number. Assumes nothing.
 use Prim.Native.Nat.{ℕ, _*_, _/_}
 use mathlib.Core.List.{List, _++_}
 use lib.Dec.{leb, ltb}
@@ -26,16 +26,16 @@ abbrev pub openCount : Outcome Venue → Outcome ℕ
 openCount (gives v) = gives 0
 openCount (refuses n) = refuses n
 
--- 16 where the run is shorter than a venue, then what open says: "3 if it isn't legal; no venue is made"
-unfoldable pub hostOpening : List ℕ → ℕ → Outcome ℕ
-hostOpening w close = pick (leb venueWords (length w)) (openCount (opening close)) (refuses 16)
+-- 16 where the run is shorter than a venue, then what open says of the step s and the close: 17, and "3 if it isn't legal; no venue is made"
+unfoldable pub hostOpening : List ℕ → ℕ → ℕ → Outcome ℕ
+hostOpening w s close = pick (leb venueWords (length w)) (openCount (opening s close)) (refuses 16)
 
 -- the words after the call: those that open gives, and those behind the venue as they were; a refusal leaves every word as it was
-abbrev pub wordsOpened : List ℕ → ℕ → Outcome ℕ → List ℕ
-wordsOpened w close (gives count) = openedWords close ++ drop venueWords w
-wordsOpened w close (refuses n) = w
+abbrev pub wordsOpened : List ℕ → ℕ → ℕ → Outcome ℕ → List ℕ
+wordsOpened w s close (gives count) = openedWords s close ++ drop venueWords w
+wordsOpened w s close (refuses n) = w
 
--- The permitted price and the record check
+-- The permitted price, which takes the step with each call (No. 2), and the record check
 
 -- "these give 0 on refusal (3; 9 to 12), else the price, or the record's byte count; the check reads at offset 0"
 abbrev pub endOrZero : {A : Type 0} → Outcome (Read A) → ℕ

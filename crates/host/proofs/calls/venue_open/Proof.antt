@@ -1,4 +1,4 @@
--- A run that is too short, a close that isn't legal, and the copy of a fresh venue. Assumes nothing.
+-- A run that is too short, a step or a close that is refused, and the copy of a fresh venue. Assumes nothing.
 use Prim.Native.Nat.{ℕ}
 use native.Mathlib.Omega.{arith}
 use mathlib.Core.Path.{ap}
@@ -17,7 +17,7 @@ mul-result : tie.Need-mul-result
 mul-result c = search needs
 
 returns : tie.Need-returns
-returns c = open-short _ _ (search needs) (ap (λ (n : ℕ). hostAnswer (refuses n)) (c .number-of .ensures))
+returns c = open-short _ _ _ (search needs) (ap (λ (n : ℕ). hostAnswer (refuses n)) (c .number-of .ensures))
 
 open-requires : tie.Need-open-requires
 open-requires c κs = search needs

@@ -61,7 +61,7 @@ use Rattle.operations.proofs.lend.watch_of.Statement as stated
 use Rattle.operations.proofs.lend.watch_of.Code as code
 
 abbrev stayed : Stays (f.ended .signature .params) (f.ended .kept)
-stayed = (stay-dropped (plain (λ _. T.the-row)) yes, (stay-dropped (plain (λ _. u32)) yes, tt))
+stayed = (stay-dropped (plain (λ _. T.the-row)) yes, (stay-dropped (plain (λ _. u32)) yes, (stay-dropped (plain (λ _. u32)) yes, tt)))
 
 -- the machine values
 abbrev wval : Watch → Val
@@ -92,12 +92,12 @@ module _ {M : Type 1} (𝓤 : URA M) (H : Heap 𝓤) (A : Atoms 𝓤) (W : Given
       qed W (‵ (partAt T.the-row fullShare h l 0) ∷ []) ∵ fpick ! (λ vs. fsplit ! $ spelt ! T.the-row (Is T.the-row) (shows 𝓤 H A T.the-row) (LL.vals T.the-type T′.the-laws) (LL.tells T.the-type T′.the-laws) fullShare h vs l 0 $
       move ! (1 ∷ []) $ peeks ! T.the-row (Is T.the-row) (shows 𝓤 H A T.the-row) h (wval h ∷ []) (λ is. drop ! $ use1 W (‵ (fat fullShare T′.mir l 0 (wval h))) (W .laws .raw-at fullShare T′.mir l 0 (wval h)) $ check ! is $ done !))
 
-module _ {M : Type 1} (𝓤 : URA M) (H : Heap 𝓤) (A : Atoms 𝓤) (W : Given 𝓤 H A) (at-mem : Memory → SProp 𝓤) (run : Routine → Fun 𝓤) (h : Watch) (n : ℕ) (h-is : Known h) (n-fits : n < 2 ^ 32) where
-  abbrev at : List Val × (List Val × Unit {0})
-  at = (wval h ∷ [], (vint w32 n ∷ [], tt))
+module _ {M : Type 1} (𝓤 : URA M) (H : Heap 𝓤) (A : Atoms 𝓤) (W : Given 𝓤 H A) (at-mem : Memory → SProp 𝓤) (run : Routine → Fun 𝓤) (h : Watch) (s n : ℕ) (h-is : Known h) (s-fits : s < 2 ^ 32) (n-fits : n < 2 ^ 32) where
+  abbrev at : List Val × (List Val × (List Val × Unit {0}))
+  at = (wval h ∷ [], (vint w32 s ∷ [], (vint w32 n ∷ [], tt)))
 
   abbrev h′ : Watch
-  h′ = watched h n
+  h′ = watched s h n
 
   abbrev seen : WatchAnswer → WatchSeen
   seen r = record { watch = h′; answer = r }
@@ -106,12 +106,12 @@ module _ {M : Type 1} (𝓤 : URA M) (H : Heap 𝓤) (A : Atoms 𝓤) (W : Given
   qval r = LL.val Q.the-type Q′.the-laws (seen r)
 
   abbrev Post : Val → SProp 𝓤
-  Post = walkOf 𝓤 H A f.ended stayed (f.clauses 𝓤 H A at-mem run) .post ((tt, tt, tt, (h, (n, tt)), at), tt)
+  Post = walkOf 𝓤 H A f.ended stayed (f.clauses 𝓤 H A at-mem run) .post ((tt, tt, tt, (h, (s, (n, tt))), at), tt)
 
-  exits : (r : WatchAnswer) → outcomeOfWatch r ≡ watchOutcome n → Is Q.the-row (seen r) (qval r ∷ []) → ent 𝓤 (emp 𝓤) (Post (qval r))
+  exits : (r : WatchAnswer) → outcomeOfWatch r ≡ watchOutcome s n → Is Q.the-row (seen r) (qval r ∷ []) → ent 𝓤 (emp 𝓤) (Post (qval r))
   exits r e is =
-      qed W [] ∵ suffices ! _ (ends-at 𝓤 H A f.ended stayed (f.clauses 𝓤 H A at-mem run) W ((tt, tt, tt, (h, (n, tt)), at), tt) (qval r) (seen r) (tt, (tt, tt)) (tt, (tt, tt))) $ says ! (refl, e) $
-      owned ! Q.the-row (Is Q.the-row) (LL.makes Q.the-type Q′.the-plain 𝓤 H A) (seen r) _ is $ nothing ! $ nothing ! $ fjoin ! $ nothing ! $ fjoin ! $ nothing ! $ done !
+      qed W [] ∵ suffices ! _ (ends-at 𝓤 H A f.ended stayed (f.clauses 𝓤 H A at-mem run) W ((tt, tt, tt, (h, (s, (n, tt))), at), tt) (qval r) (seen r) (tt, (tt, (tt, tt))) (tt, (tt, (tt, tt)))) $ says ! (refl, e) $
+      owned ! Q.the-row (Is Q.the-row) (LL.makes Q.the-type Q′.the-plain 𝓤 H A) (seen r) _ is $ nothing ! $ nothing ! $ fjoin ! $ nothing ! $ fjoin ! $ nothing ! $ fjoin ! $ nothing ! $ done !
 
   -- the reference to the local l, under the name γ
   abbrev x : ℕ → GName → RefT Watch
@@ -121,57 +121,57 @@ module _ {M : Type 1} (𝓤 : URA M) (H : Heap 𝓤) (A : Atoms 𝓤) (W : Given
   Own α l γ = MutRef (named 0) (α ∷ []) T.the-row .own (x l γ) (vptr l 0 ∷ [])
 
   abbrev to-watch : ℕ → ℕ → GName → Sees 𝓤 H A at-mem run .Ghost
-  to-watch α l γ = (((α ∷ [], tt), (fullShare, tt), tt, (x l γ, (n, tt)), (vptr l 0 ∷ [], (vint w32 n ∷ [], tt))), tt)
+  to-watch α l γ = (((α ∷ [], tt), (fullShare, tt), tt, (x l γ, (s, (n, tt))), (vptr l 0 ∷ [], (vint w32 s ∷ [], (vint w32 n ∷ [], tt)))), tt)
 
   goes-watch : (α l : ℕ) (γ : GName) → ent 𝓤 (sep 𝓤 (A .lft (α ∷ []) fullShare) (sem 𝓤 H A (Own α l γ))) (Sees 𝓤 H A at-mem run .pre (to-watch α l γ))
   goes-watch α l γ =
-      qed W (‵ (flft (α ∷ []) fullShare) ∷ ‵ (Own α l γ) ∷ []) ∵ nothing ! $ owned ! u32 (Is u32) (uint-makes 𝓤 H A W w32) n _ (refl, n-fits) $ fjoin ! $ move ! (2 ∷ 0 ∷ []) $ fjoin ! $ nothing ! $ move ! (2 ∷ 0 ∷ []) $ join ! $ join ! $ frame ! $ done !
+      qed W (‵ (flft (α ∷ []) fullShare) ∷ ‵ (Own α l γ) ∷ []) ∵ nothing ! $ owned ! u32 (Is u32) (uint-makes 𝓤 H A W w32) n _ (refl, n-fits) $ fjoin ! $ owned ! u32 (Is u32) (uint-makes 𝓤 H A W w32) s _ (refl, s-fits) $ fjoin ! $ move ! (2 ∷ 0 ∷ []) $ fjoin ! $ nothing ! $ move ! (2 ∷ 0 ∷ []) $ join ! $ join ! $ frame ! $ done !
 
   -- what `watch` says of its answer and of the record at exit
   abbrev Said : WatchAnswer → Watch → Type 0
-  Said r d = (outcomeOfWatch r ≡ watchOutcome n) × (d ≡ h′)
+  Said r d = (outcomeOfWatch r ≡ watchOutcome s n) × (d ≡ h′)
 
   module _ (C : Calls 𝓤 H) (Λ : Loops 𝓤 H) (fm : FmC 𝓤 H (W .laws) C) (known-watch : Triple 𝓤 (C #watch) (Sees 𝓤 H A at-mem run)) where
-    walk : ent 𝓤 (onEntry 𝓤 H A f.signature tt tt (h, (n, tt)) at) (WpFn 𝓤 H C Λ code.function (wval h ∷ vint w32 n ∷ []) Post)
+    walk : ent 𝓤 (onEntry 𝓤 H A f.signature tt tt (h, (s, (n, tt))) at) (WpFn 𝓤 H C Λ code.function (wval h ∷ vint w32 s ∷ vint w32 n ∷ []) Post)
     walk =
-        qed W (‵ ftrue ∷ ‵ (owns (T.the-row ∷ u32 ∷ []) (h, (n, tt)) at) ∷ []) ∵ keep ! [] $ enter ! C Λ code.function (wval h ∷ vint w32 n ∷ []) _ $
-        alloc1 ! (λ l₀. alloc1 ! (λ l₁. alloc1 ! (λ l₂. alloc1 ! (λ l₃. alloc1 ! (λ l₄. alloc1 ! (λ l₅. alloc1 ! (λ l₆. alloc0 ! $ params1 ! $
-        pass1 ! (init ! 10 refl (LL.lawful T.the-type T′.the-laws 𝓤 H A W .typed h _ h-is .0)) $ pass1 ! (init ! 8 refl (tt, record { fits = n-fits })) $ pass0 ! $
-        -- [_6 0; _5 2; _4 4; _3 6; _2 8; _1 10; _0 12]
-        assigns ! (of-opd ! (load ! (from ! (stop !)) (look ! 10 refl))) (from ! (stop !)) (init ! 6 refl (LL.lawful T.the-type T′.the-laws 𝓤 H A W .typed h _ h-is .0)) $
+        qed W (‵ ftrue ∷ ‵ (owns (T.the-row ∷ u32 ∷ u32 ∷ []) (h, (s, (n, tt))) at) ∷ []) ∵ keep ! [] $ enter ! C Λ code.function (wval h ∷ vint w32 s ∷ vint w32 n ∷ []) _ $
+        alloc1 ! (λ l₀. alloc1 ! (λ l₁. alloc1 ! (λ l₂. alloc1 ! (λ l₃. alloc1 ! (λ l₄. alloc1 ! (λ l₅. alloc1 ! (λ l₆. alloc1 ! (λ l₇. alloc0 ! $ params1 ! $
+        pass1 ! (init ! 12 refl (LL.lawful T.the-type T′.the-laws 𝓤 H A W .typed h _ h-is .0)) $ pass1 ! (init ! 10 refl (tt, record { fits = s-fits })) $ pass1 ! (init ! 8 refl (tt, record { fits = n-fits })) $ pass0 ! $
+        -- [_7 0; _6 2; _5 4; _4 6; _3 8; _2 10; _1 12; _0 14]
+        assigns ! (of-opd ! (load ! (from ! (stop !)) (look ! 12 refl))) (from ! (stop !)) (init ! 6 refl (LL.lawful T.the-type T′.the-laws 𝓤 H A W .typed h _ h-is .0)) $
         assigns ! (addr ! (from ! (stop !))) (from ! (stop !)) (init ! 2 refl (tt, tt)) $
         -- the struct is lent
-        move ! (6 ∷ []) $ use1 W (‵ (mem T.the-row .lies h l₃ 0)) (lies 𝓤 H A W l₃ h h-is) $ lft-new ! tt (λ α. move ! (1 ∷ []) $
-        use1 W (later (some (λ (γ : GName). ‵ (Own α l₃ γ) ⊛ ‵ (flent (α ∷ []) (Body (mem T.the-row) l₃ 0 γ))))) (lends-ref 𝓤 H A W T.the-row (named 0) (α ∷ []) h l₃ 0) $ await ! tt $ pick ! (λ γ. split ! $
-        move ! (2 ∷ 0 ∷ []) $ use2 W (raw (Sees 𝓤 H A at-mem run .pre (to-watch α l₃ γ))) (goes-watch α l₃ γ) $
-        -- [what `watch` asks; the lender's part; _6 2; _5 4; _4 6; _3's 8; _2 9; _1 11; _0 13]
-        calls-at ! fm (Sees 𝓤 H A at-mem run) known-watch (to-watch α l₃ γ) (and-then ! (load ! (from ! (stop !)) (look ! 4 refl)) (and-then ! (load ! (from ! (stop !)) (look ! 9 refl)) (no-more !))) (λ v.
-        use1 W (later (some (λ (r : WatchAnswer). ((‵ (flft (α ∷ []) fullShare) ⊛ ‵ ftrue) ⊛ ‵ (S.the-row .own r (v ∷ []))) ⊛ raw (ensured 𝓤 H A a.ended (a.clauses 𝓤 H A at-mem run) (α ∷ [], tt) (x l₃ γ, (n, tt)) tt r)))) (id⊢ 𝓤 _) $ await ! tt $ pick ! (λ r.
-        split ! $ move ! (1 ∷ []) $ use1 W (some (λ (ws : Watch × (Unit {0} × Unit {0})). ‵ (lasts a.ended (α ∷ [], tt) (x l₃ γ, (n, tt)) ws) ⊛ raw (fact 𝓤 (Said r (ws .0))))) (id⊢ 𝓤 _) $ pick ! (λ ws.
+        move ! (6 ∷ []) $ use1 W (‵ (mem T.the-row .lies h l₄ 0)) (lies 𝓤 H A W l₄ h h-is) $ lft-new ! tt (λ α. move ! (1 ∷ []) $
+        use1 W (later (some (λ (γ : GName). ‵ (Own α l₄ γ) ⊛ ‵ (flent (α ∷ []) (Body (mem T.the-row) l₄ 0 γ))))) (lends-ref 𝓤 H A W T.the-row (named 0) (α ∷ []) h l₄ 0) $ await ! tt $ pick ! (λ γ. split ! $
+        move ! (2 ∷ 0 ∷ []) $ use2 W (raw (Sees 𝓤 H A at-mem run .pre (to-watch α l₄ γ))) (goes-watch α l₄ γ) $
+        -- [what `watch` asks; the lender's part; _7 2; _6 4; _5 6; _4's 8; _3 9; _2 11; _1 13; _0 15]
+        calls-at ! fm (Sees 𝓤 H A at-mem run) known-watch (to-watch α l₄ γ) (and-then ! (load ! (from ! (stop !)) (look ! 4 refl)) (and-then ! (load ! (from ! (stop !)) (look ! 11 refl)) (and-then ! (load ! (from ! (stop !)) (look ! 9 refl)) (no-more !)))) (λ v.
+        use1 W (later (some (λ (r : WatchAnswer). ((‵ (flft (α ∷ []) fullShare) ⊛ ‵ ftrue) ⊛ ‵ (S.the-row .own r (v ∷ []))) ⊛ raw (ensured 𝓤 H A a.ended (a.clauses 𝓤 H A at-mem run) (α ∷ [], tt) (x l₄ γ, (s, (n, tt))) tt r)))) (id⊢ 𝓤 _) $ await ! tt $ pick ! (λ r.
+        split ! $ move ! (1 ∷ []) $ use1 W (some (λ (ws : Watch × (Unit {0} × (Unit {0} × Unit {0}))). ‵ (lasts a.ended (α ∷ [], tt) (x l₄ γ, (s, (n, tt))) ws) ⊛ raw (fact 𝓤 (Said r (ws .0))))) (id⊢ 𝓤 _) $ pick ! (λ ws.
         split ! $ move ! (1 ∷ []) $ heard ! (Said r (ws .0)) (λ e. fsplit ! $ rewrite ! 0 (λ (d : Watch). ‵ (fres γ (T.the-row .coded .code d))) (e .1) refl $
         -- [the last record; true; the token and the answer; the lender's part; …]: the lifetime is ended, and the struct comes back
-        move ! (2 ∷ []) $ split ! $ split ! $ lft-end ! tt $ move ! (0 ∷ 5 ∷ 3 ∷ []) $ use3 W (later (‵ (mem T.the-row .lies h′ l₃ 0))) (ref-back 𝓤 H A W T.the-row (α ∷ []) γ h′ l₃ 0) $ await ! tt $
-        -- [_3; true; the answer; true; _6 4; _5 6; _4 8; _3's 10; _2 11; _1 13; _0 15]
-        use1 W (given (Known h′) (‵ (fat fullShare T′.mir l₃ 0 (wval h′)))) (regain 𝓤 H A W l₃ h′) $ learn ! (λ h′-is. move ! (2 ∷ []) $
+        move ! (2 ∷ []) $ split ! $ split ! $ lft-end ! tt $ move ! (0 ∷ 5 ∷ 3 ∷ []) $ use3 W (later (‵ (mem T.the-row .lies h′ l₄ 0))) (ref-back 𝓤 H A W T.the-row (α ∷ []) γ h′ l₄ 0) $ await ! tt $
+        -- [_4; true; the answer; true; _7 4; _6 6; _5 8; _4's 10; _3 11; _2 13; _1 15; _0 17]
+        use1 W (given (Known h′) (‵ (fat fullShare T′.mir l₄ 0 (wval h′)))) (regain 𝓤 H A W l₄ h′) $ learn ! (λ h′-is. move ! (2 ∷ []) $
         peeks ! S.the-row (Is S.the-row) (shows 𝓤 H A S.the-row) r (v ∷ []) (λ is. move ! (1 ∷ []) $
         let same : v ≡ rval r = ap only (EL.tells S.the-type S′.the-laws r (v ∷ []) is) in
         let r-is : Is S.the-row r (rval r ∷ []) = subst (λ (u : Val). Is S.the-row r (u ∷ [])) same is in
         let seen-is : Is Q.the-row (seen r) (qval r ∷ []) = LL.owes Q.the-type Q′.the-laws (seen r) (h′-is, (r-is, tt)) in
-        land ! (from ! (stop !)) (init ! 8 refl (EL.lawful S.the-type S′.the-laws 𝓤 H A W tt .typed r _ is .0)) $ rewrite ! 8 (λ (u : Val). ‵ (fat fullShare S′.mir l₄ 0 u)) same refl $
+        land ! (from ! (stop !)) (init ! 8 refl (EL.lawful S.the-type S′.the-laws 𝓤 H A W tt .typed r _ is .0)) $ rewrite ! 8 (λ (u : Val). ‵ (fat fullShare S′.mir l₅ 0 u)) same refl $
         assigns ! (of-opd ! (load ! (from ! (stop !)) (look ! 0 refl))) (from ! (stop !)) (init ! 4 refl (LL.lawful T.the-type T′.the-laws 𝓤 H A W .typed h′ _ h′-is .0)) $
-        assigns ! (agg ! (and-then ! (load ! (from ! (stop !)) (look ! 4 refl)) (and-then ! (load ! (from ! (stop !)) (look ! 8 refl)) (no-more !)))) (from ! (stop !)) (init ! 15 refl (LL.lawful Q.the-type Q′.the-laws 𝓤 H A W .typed (seen r) _ seen-is .0)) $
-        returns ! (look ! 15 refl) $ forget ! 0 refl $ forget ! 4 refl $ forget ! 6 refl $ forget ! 8 refl $ forget ! 11 refl $ forget ! 13 refl $ forget ! 15 refl $
-        move ! (15 ∷ 16 ∷ []) $ free1 ! $ move ! (13 ∷ 14 ∷ []) $ free1 ! $ move ! (11 ∷ 12 ∷ []) $ free1 ! $ move ! (0 ∷ 10 ∷ []) $ free1 ! $ move ! (7 ∷ 8 ∷ []) $ free1 ! $ move ! (5 ∷ 6 ∷ []) $ free1 ! $ move ! (3 ∷ 4 ∷ []) $ free1 ! $ free0 ! $
-        keep ! [] $ by ! (exits r (e .0) seen-is))))))))))))))))
+        assigns ! (agg ! (and-then ! (load ! (from ! (stop !)) (look ! 4 refl)) (and-then ! (load ! (from ! (stop !)) (look ! 8 refl)) (no-more !)))) (from ! (stop !)) (init ! 17 refl (LL.lawful Q.the-type Q′.the-laws 𝓤 H A W .typed (seen r) _ seen-is .0)) $
+        returns ! (look ! 17 refl) $ forget ! 0 refl $ forget ! 4 refl $ forget ! 6 refl $ forget ! 8 refl $ forget ! 11 refl $ forget ! 13 refl $ forget ! 15 refl $ forget ! 17 refl $
+        move ! (17 ∷ 18 ∷ []) $ free1 ! $ move ! (15 ∷ 16 ∷ []) $ free1 ! $ move ! (13 ∷ 14 ∷ []) $ free1 ! $ move ! (11 ∷ 12 ∷ []) $ free1 ! $ move ! (0 ∷ 10 ∷ []) $ free1 ! $ move ! (7 ∷ 8 ∷ []) $ free1 ! $ move ! (5 ∷ 6 ∷ []) $ free1 ! $ move ! (3 ∷ 4 ∷ []) $ free1 ! $ free0 ! $
+        keep ! [] $ by ! (exits r (e .0) seen-is)))))))))))))))))
 
 module _ {M : Type 1} (𝓤 : URA M) (H : Heap 𝓤) (A : Atoms 𝓤) (W : Given 𝓤 H A) (at-mem : Memory → SProp 𝓤) (run : Routine → Fun 𝓤) where
   watch-of-walks : (C : Calls 𝓤 H) (Λ : Loops 𝓤 H) → FmC 𝓤 H (W .laws) C → Triple 𝓤 (C #watch) (Sees 𝓤 H A at-mem run) → Walks 𝓤 H A f.ended stayed (WpFn 𝓤 H C Λ code.function) (f.clauses 𝓤 H A at-mem run)
   watch-of-walks C Λ fm known-watch = walked 𝓤 H A f.ended stayed (f.clauses 𝓤 H A at-mem run) (WpFn 𝓤 H C Λ code.function)
-      (λ κs. (LL.vals T.the-type T′.the-laws, (uint-vals w32, tt))) (λ κs. (LL.tells T.the-type T′.the-laws, (uint-tells w32, tt)))
-      (λ κs qs bounds y _ are. via 𝓤 _ (fst∗ 𝓤 _ (emp 𝓤)) (walk 𝓤 H A W at-mem run (y .0) (y .1 .0) (are .0) (are .1 .0 .1) C Λ fm known-watch))
+      (λ κs. (LL.vals T.the-type T′.the-laws, (uint-vals w32, (uint-vals w32, tt)))) (λ κs. (LL.tells T.the-type T′.the-laws, (uint-tells w32, (uint-tells w32, tt))))
+      (λ κs qs bounds y _ are. via 𝓤 _ (fst∗ 𝓤 _ (emp 𝓤)) (walk 𝓤 H A W at-mem run (y .0) (y .1 .0) (y .1 .1 .0) (are .0) (are .1 .0 .1) (are .1 .1 .0 .1) C Λ fm known-watch))
 
   goes : AllGo 𝓤 H A W 0 (f.signature .params) (f.ended .kept) stayed
-  goes = (goes-dropped 𝓤 H A W 0 (plain (λ _. T.the-row)) yes (λ κs x f. refl), (goes-dropped 𝓤 H A W 0 (plain (λ _. u32)) yes (λ κs x f. refl), tt))
+  goes = (goes-dropped 𝓤 H A W 0 (plain (λ _. T.the-row)) yes (λ κs x f. refl), (goes-dropped 𝓤 H A W 0 (plain (λ _. u32)) yes (λ κs x f. refl), (goes-dropped 𝓤 H A W 0 (plain (λ _. u32)) yes (λ κs x f. refl), tt)))
 
 watch-of-meets : {M : Type 1} (𝓤 : URA M) (H : Heap 𝓤) (A : Atoms 𝓤) (W : Given 𝓤 H A) (at-mem : Memory → SProp 𝓤) (run : Routine → Fun 𝓤) (𝓣 : Tables 𝓤 H)
     → Triple 𝓤 (𝓣 .C #watch) (Sees 𝓤 H A at-mem run) → Meets 𝓤 H A f.signature (WpFn 𝓤 H (𝓣 .C) (𝓣 .Λ) code.function) (f.spec 𝓤 H A at-mem run)
