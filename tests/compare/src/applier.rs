@@ -49,7 +49,7 @@ impl Applier {
 
     /// A call on both sides: the same answer, reports and venue.
     pub fn call(&mut self, sides: &mut Sides, step: &Step) -> Result<Applied, Fault> {
-        let length = compare_record(step.record)?;
+        let length = compare_record(sides.venue.step, step.record)?;
         let read = read_record(step.record, 0);
         let [engine_lent, model_lent] = &mut self.lent;
         let (venue, words) = sides.lend();
@@ -94,9 +94,9 @@ impl Applier {
     }
 }
 
-/// The record check, and the permitted price of a bid. Gives the engine's byte
-/// count of the record.
-fn compare_record(bytes: &[u8]) -> Result<usize, Fault> {
+/// The record check, and the permitted price of a bid at a step. Gives the
+/// engine's byte count of the record.
+fn compare_record(step: u32, bytes: &[u8]) -> Result<usize, Fault> {
     let read = read_record(bytes, 0);
     let length = engine::record_check(bytes);
     same(
@@ -105,8 +105,9 @@ fn compare_record(bytes: &[u8]) -> Result<usize, Fault> {
         read.map_or(0, |(_, end)| end as u64),
     )?;
     if let Ok((Event::Bid { price }, _)) = read {
-        let expected = permitted_price(price).unwrap_or(0);
-        same("permitted price", engine::permitted_price(price), expected)?;
+        let expected = permitted_price(step, price).unwrap_or(0);
+        let found = engine::permitted_price(step, price);
+        same("permitted price", found, expected)?;
     }
     Ok(length as usize)
 }

@@ -138,7 +138,7 @@ mod tests {
             last_stamp: 1,
             accepted: 3,
             orders: vec![short],
-            ..Venue::fresh(100_000)
+            ..Venue::fresh(100, 100_000)
         };
         let mut after = before.clone();
         after.accepted += 1;

@@ -5,7 +5,7 @@ use crate::by_limits;
 use crate::counts::{Counts, Lent};
 use crate::model::{
     copy_out, depth, is_legal, permitted_price, read_record, watch_tape, write_record, Event,
-    Order, OrderRecord, RecordCheck, Refusal, Report, ReportWriter, Side, Venue, Watch, BUY,
+    Order, OrderRecord, RecordCheck, Refusal, Report, ReportWriter, Side, Venue, Watch, BUY, CENT,
     LEAST_BUFFER, OPT_OUT, PLACES, SHORT,
 };
 use crate::sessions::{self, ensure, Examiner, Fault};
@@ -29,7 +29,7 @@ impl Examiner for Checked {
         let from_open = session.kind.is_from_open();
         self.venue = session.start.clone();
         self.account = from_open.then(|| Account::new(self.venue.close));
-        let opened = Venue::open(self.venue.close);
+        let opened = Venue::open(self.venue.step, self.venue.close);
         ensure(!from_open || opened.as_ref() == Ok(&self.venue), "open")
     }
 
@@ -85,7 +85,7 @@ impl Examiner for Checked {
 
 impl Checked {
     fn new() -> Self {
-        let venue = Venue::fresh(1);
+        let venue = Venue::fresh(CENT, 1);
         Checked {
             before: venue.clone(),
             venue,
@@ -113,7 +113,7 @@ impl Checked {
         match *event {
             Event::Tape { price } if refusal == Refusal::Price => check_watch(&self.before, price),
             Event::Bid { price } if refusal == Refusal::Price => ensure(
-                permitted_price(price) == Err(Refusal::Price),
+                permitted_price(self.venue.step, price) == Err(Refusal::Price),
                 "the permitted price refuses what isn't a bid",
             ),
             _ => Ok(()),
@@ -127,7 +127,7 @@ impl Checked {
         check_stamps(before, venue, event, reports)?;
         match *event {
             Event::Tape { price } => check_watch(before, price)?,
-            Event::Bid { price } => check_permitted(price)?,
+            Event::Bid { price } => check_permitted(before.step, price)?,
             _ => {}
         }
         let Some(account) = &mut self.account else {
@@ -237,20 +237,26 @@ fn check_watch(before: &Venue, price: u32) -> Result<(), Fault> {
         close: before.close,
         phase: before.phase,
     };
-    let answer = watch_tape(&mut watch, price);
+    let answer = watch_tape(&mut watch, before.step, price);
     let triggers = u64::from(price) * 10 <= u64::from(before.close) * 9;
     let phase = match before.phase {
         0 if answer.is_ok() && triggers => 1,
         phase => phase,
     };
-    ensure(answer.is_ok() == is_legal(price), "the watch's refusal")?;
+    ensure(
+        answer.is_ok() == is_legal(before.step, price),
+        "the watch's refusal",
+    )?;
     ensure(watch.phase == phase, "the watch's phase")
 }
 
 /// The permitted price is the lowest legal price above the bid.
-fn check_permitted(bid: u32) -> Result<(), Fault> {
-    let above = (bid + 1..).find(|&price| is_legal(price));
-    ensure(permitted_price(bid).ok() == above, "the permitted price")
+fn check_permitted(step: u32, bid: u32) -> Result<(), Fault> {
+    let above = (bid + 1..).find(|&price| is_legal(step, price));
+    ensure(
+        permitted_price(step, bid).ok() == above,
+        "the permitted price",
+    )
 }
 
 /// Copy out fills the front of a run that is one record short, exact or one

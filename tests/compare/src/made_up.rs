@@ -1,6 +1,6 @@
 //! Venue records that open need not reach, sound and spoilt.
 
-use crate::model::{Order, Venue, HIGHEST, LOWEST, MOST_EVENTS, MOST_SHARES, PLACES, SHORT};
+use crate::model::{Order, Venue, CENT, HIGHEST, LOWEST, MOST_EVENTS, MOST_SHARES, PLACES, SHORT};
 use crate::rng::Rng;
 use crate::streams::{near, odd_number, price_of, Market};
 
@@ -39,6 +39,7 @@ pub fn made_up(rng: &mut Rng, market: &Market) -> Venue {
     let bid = market.bid(rng, 0);
     let ids = rising(rng, count, last_id).into_iter().zip(stamps);
     Venue {
+        step: CENT,
         close: market.close(rng),
         phase: rng.up_to(2),
         bid,

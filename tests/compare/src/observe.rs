@@ -4,7 +4,7 @@ use crate::compare::same;
 use crate::counts::Counts;
 use crate::engine;
 use crate::model::{
-    copy_out, depth, watch_tape, OrderRecord, Refusal, Side, Venue, Watch, BUY, PLACES, SHORT,
+    copy_out, depth, watch_tape, OrderRecord, Refusal, Side, Venue, Watch, BUY, CENT, PLACES, SHORT,
 };
 use crate::rng::Rng;
 use crate::sessions::Fault;
@@ -125,8 +125,8 @@ impl Observer {
 fn compare_watch(rng: &mut Rng, counts: &mut Counts) -> Result<(), Fault> {
     let (before, price) = any_watch(rng);
     let (mut engine, mut model) = (before, before);
-    let answer = engine::watch(&mut engine, price);
-    let expected = watch_tape(&mut model, price);
+    let answer = engine::watch(&mut engine, CENT, price);
+    let expected = watch_tape(&mut model, CENT, price);
     counts.watch(expected, model != before);
     let expected = engine::answer_of(expected.map(|()| 0));
     same(

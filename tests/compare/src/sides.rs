@@ -3,7 +3,7 @@
 use crate::compare::same;
 use crate::counts::Counts;
 use crate::engine;
-use crate::model::{Refusal, Venue, PLACES};
+use crate::model::{Refusal, Venue, CENT, PLACES};
 use crate::rng::Rng;
 use crate::sessions::Fault;
 use crate::streams::{odd_number, Session};
@@ -41,7 +41,7 @@ impl Sides {
         let mut rng = Rng::new(0);
         let noise: Vec<u32> = (0..WORDS).map(|_| rng.word()).collect();
         Sides {
-            venue: Venue::fresh(1),
+            venue: Venue::fresh(CENT, 1),
             words: noise.clone(),
             before: noise.clone(),
             noise,
@@ -97,11 +97,11 @@ impl Sides {
         counts: &mut Counts,
     ) -> Result<(), Fault> {
         self.before.copy_from_slice(&self.words);
-        let answer = engine::open(&mut self.words[..lent_words], close);
+        let answer = engine::open(&mut self.words[..lent_words], CENT, close);
         let model = if lent_words < engine::VENUE_WORDS {
             Err(Refusal::VenueRecord)
         } else {
-            Venue::open(close)
+            Venue::open(CENT, close)
         };
         let expected = model.as_ref().map(|_| 0).map_err(|&refusal| refusal);
         counts.open(expected);

@@ -3,19 +3,19 @@
 
 use crate::made_up::{made_up, sink_shorts, spoil_record};
 use crate::model::{
-    read_record, write_number, write_record, Entry, Event, RecordCheck, Venue, DOLLAR, HIGHEST,
-    HIGHEST_BID, LEAST_BUFFER, LONGEST_NUMBER, LOWEST, MOST_EVENTS, MOST_SHARES, SHORT, STEP,
+    read_record, write_number, write_record, Entry, Event, RecordCheck, Venue, CENT, DOLLAR,
+    HIGHEST, LEAST_BUFFER, LONGEST_NUMBER, LOWEST, MOST_EVENTS, MOST_SHARES, SHORT,
 };
 use crate::rng::Rng;
 
 /// Legal prices counted from 1 up; rung 0 is no bid.
-const RUNGS: u32 = DOLLAR + (HIGHEST - DOLLAR) / STEP;
+const RUNGS: u32 = DOLLAR + (HIGHEST - DOLLAR) / CENT;
 
 pub fn price_of(rung: u32) -> u32 {
     if rung < DOLLAR {
         rung
     } else {
-        DOLLAR + (rung - DOLLAR) * STEP
+        DOLLAR + (rung - DOLLAR) * CENT
     }
 }
 
@@ -24,7 +24,7 @@ fn rung_of(price: u32) -> u32 {
     if price < DOLLAR {
         price
     } else {
-        DOLLAR + (price - DOLLAR) / STEP
+        DOLLAR + (price - DOLLAR) / CENT
     }
 }
 
@@ -43,7 +43,7 @@ pub fn near_trigger(rng: &mut Rng, close: u32) -> u32 {
 
 /// A bid at most so many rungs away.
 fn bid_near(rng: &mut Rng, rung: u32, reach: u32) -> u32 {
-    near(rng, rung, reach).min(HIGHEST_BID)
+    near(rng, rung, reach).min(HIGHEST - CENT)
 }
 
 /// Where a session trades, how far from there, and how often in a hundred
@@ -191,16 +191,16 @@ pub fn odd_number(rng: &mut Rng) -> u32 {
         DOLLAR - 1,
         DOLLAR,
         DOLLAR + 1,
-        DOLLAR + STEP - 1,
+        DOLLAR + CENT - 1,
         MOST_SHARES,
         MOST_SHARES + 1,
         MOST_EVENTS,
         MOST_EVENTS + 1,
-        HIGHEST_BID,
-        HIGHEST_BID + 1,
+        HIGHEST - CENT,
+        HIGHEST - CENT + 1,
         HIGHEST,
         HIGHEST + 1,
-        HIGHEST + STEP,
+        HIGHEST + CENT,
         u32::MAX - 1,
         u32::MAX,
         any,
@@ -357,10 +357,14 @@ impl Session {
         };
         let long = rng.pick(&[50, 400, 1_500]);
         let (start, left, bytes) = match kind {
-            Kind::Sound => (Venue::fresh(market.close(&mut rng)), long, Vec::new()),
-            Kind::Nonsense => (Venue::fresh(market.close(&mut rng)), long / 2, Vec::new()),
+            Kind::Sound => (Venue::fresh(CENT, market.close(&mut rng)), long, Vec::new()),
+            Kind::Nonsense => (
+                Venue::fresh(CENT, market.close(&mut rng)),
+                long / 2,
+                Vec::new(),
+            ),
             Kind::Damaged => {
-                let venue = Venue::fresh(market.close(&mut rng));
+                let venue = Venue::fresh(CENT, market.close(&mut rng));
                 let bytes = damaged_stream(&mut rng, &market, venue.clone());
                 (venue, u32::MAX, bytes)
             }
@@ -502,7 +506,7 @@ pub fn trace(seed: u64, resting: usize, events: usize) -> Trace {
         no_bids: 1,
         lowest_bids: 0,
     };
-    let mut venue = Venue::fresh(100_000);
+    let mut venue = Venue::fresh(CENT, 100_000);
     let mut buffer = vec![0; LEAST_BUFFER];
     let mut play = |venue: &mut Venue, event: &Event| {
         let answer = venue.apply(event, &mut buffer, RecordCheck::Skipped);
