@@ -7,9 +7,9 @@ use crate::model::{permitted_price, read_record, Event, RecordCheck, Refusal};
 use crate::output::Output;
 use crate::sessions::Fault;
 use crate::sides::Sides;
-use crate::streams::Step;
+use crate::streams::Call;
 
-/// What a step got.
+/// What a call got.
 pub struct Applied {
     /// The model's answer, with which the engine's was compared in the call.
     pub answer: Result<usize, Refusal>,
@@ -21,8 +21,8 @@ pub struct Applied {
 }
 
 impl Applied {
-    /// The bytes of the step's record; where it can't be read, the first byte,
-    /// behind which the next step goes on.
+    /// The bytes of the call's record; where it can't be read, the first byte,
+    /// behind which the next call goes on.
     pub fn taken(&self) -> usize {
         self.length.max(1)
     }
@@ -48,14 +48,14 @@ impl Applier {
     }
 
     /// A call on both sides: the same answer, reports and venue.
-    pub fn call(&mut self, sides: &mut Sides, step: &Step) -> Result<Applied, Fault> {
-        let length = compare_record(sides.venue.step, step.record)?;
-        let read = read_record(step.record, 0);
+    pub fn call(&mut self, sides: &mut Sides, call: &Call) -> Result<Applied, Fault> {
+        let length = compare_record(sides.venue.step, call.record)?;
+        let read = read_record(call.record, 0);
         let [engine_lent, model_lent] = &mut self.lent;
         let (venue, words) = sides.lend();
-        let number = engine::apply(words, step.record, engine_lent.lend(step.buffer));
+        let number = engine::apply(words, call.record, engine_lent.lend(call.buffer));
         let answer = read.and_then(|(event, _)| {
-            let buffer = model_lent.lend(step.buffer);
+            let buffer = model_lent.lend(call.buffer);
             venue?.apply(&event, buffer, RecordCheck::Done)
         });
         same("answer", number, engine::answer_of(answer))?;

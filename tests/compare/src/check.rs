@@ -9,7 +9,7 @@ use crate::model::{
     LEAST_BUFFER, OPT_OUT, PLACES, SHORT,
 };
 use crate::sessions::{self, ensure, Examiner, Fault};
-use crate::streams::{Session, Step};
+use crate::streams::{Call, Session};
 
 /// Plays sessions until so many events are over. Gives whether all claims held.
 pub fn run(seed: u64, events: u64) -> bool {
@@ -37,21 +37,21 @@ impl Examiner for Checked {
         &self.venue
     }
 
-    fn step(&mut self, step: &Step, counts: &mut Counts) -> Result<(), Fault> {
-        let (event, end) = match read_record(step.record, 0) {
+    fn event(&mut self, call: &Call, counts: &mut Counts) -> Result<(), Fault> {
+        let (event, end) = match read_record(call.record, 0) {
             Ok(read) => read,
             Err(refusal) => {
                 counts.refuse_record(refusal);
                 return Ok(());
             }
         };
-        check_round_trip(&event, &step.record[..end], counts.events as usize % 5)?;
+        check_round_trip(&event, &call.record[..end], counts.events as usize % 5)?;
         self.before.clone_from(&self.venue);
-        let buffer = self.lent.lend(step.buffer);
+        let buffer = self.lent.lend(call.buffer);
         let answer = self.venue.apply(&event, buffer, RecordCheck::Done);
         if answer != Err(Refusal::VenueRecord) {
             let answer = answer.map(|count| self.lent.front(count));
-            by_limits::check(&self.before, &event, step.buffer, answer, &self.venue)?;
+            by_limits::check(&self.before, &event, call.buffer, answer, &self.venue)?;
         }
         match answer {
             Err(refusal) => {

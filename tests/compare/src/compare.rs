@@ -16,7 +16,7 @@ use crate::replay::Replay;
 use crate::rng::Rng;
 use crate::sessions::{self, Examiner, Fault};
 use crate::sides::Sides;
-use crate::streams::{Session, Step};
+use crate::streams::{Call, Session};
 
 /// At so many events, on average, the observing calls are compared once.
 const EVENTS_A_LOOK: u32 = 8;
@@ -55,11 +55,11 @@ impl Pair {
         }
     }
 
-    /// Compares a step, and counts what it got.
-    fn apply(&mut self, step: &Step, counts: &mut Counts) -> Result<Applied, Fault> {
-        let read = read_record(step.record, 0);
+    /// Compares a call of apply, and counts what it got.
+    fn apply(&mut self, call: &Call, counts: &mut Counts) -> Result<Applied, Fault> {
+        let read = read_record(call.record, 0);
         let before = self.sides.venue.clone();
-        let applied = self.applier.call(&mut self.sides, step);
+        let applied = self.applier.call(&mut self.sides, call);
         let applied = applied.map_err(|fault| format!("{fault}\n  in {read:?}"))?;
         match (read, applied.answer) {
             (Err(refusal), _) => counts.refuse_record(refusal),
@@ -97,18 +97,18 @@ impl Examiner for Pair {
         &self.sides.venue
     }
 
-    fn step(&mut self, step: &Step, counts: &mut Counts) -> Result<(), Fault> {
-        let mut applied = self.apply(step, counts)?;
+    fn event(&mut self, call: &Call, counts: &mut Counts) -> Result<(), Fault> {
+        let mut applied = self.apply(call, counts)?;
         if applied.answer == Err(Refusal::ShortBuffer) {
             // Once more with room, as a host would; so the event is one of a
             // play too.
-            let again = Step {
+            let again = Call {
                 buffer: LEAST_BUFFER,
-                ..*step
+                ..*call
             };
             applied = self.apply(&again, counts)?;
         }
-        self.replay.gather(step.record, &applied);
+        self.replay.gather(call.record, &applied);
         if self.rng.one_in(EVENTS_A_LOOK) {
             self.look(counts)?;
         }

@@ -113,10 +113,10 @@ impl Counts {
         }
     }
 
-    pub fn differ(&mut self, seed: u64, step: u64, what: &str) {
+    pub fn differ(&mut self, seed: u64, event: u64, what: &str) {
         self.differences += 1;
         if self.differences <= MOST_PRINTED {
-            println!("difference in session {seed:#x} at step {step}: {what}");
+            println!("difference in session {seed:#x} at event {event}: {what}");
         }
     }
 }

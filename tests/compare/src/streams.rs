@@ -325,7 +325,7 @@ impl Kind {
 
 /// One event to apply: the bytes to read a record from (a damaged stream gives
 /// all its rest) and the length of the report buffer to lend.
-pub struct Step<'a> {
+pub struct Call<'a> {
     pub record: &'a [u8],
     pub buffer: usize,
 }
@@ -341,7 +341,7 @@ pub struct Session {
     at: usize,
 }
 
-/// The longest buffer that a step lends, longer than any event may need.
+/// The longest buffer that a call lends, longer than any event may need.
 pub const MOST_BUFFER: usize = LEAST_BUFFER + 4_096;
 
 impl Session {
@@ -392,8 +392,8 @@ impl Session {
         }
     }
 
-    /// The next step for the venue as it stands.
-    pub fn next(&mut self, venue: &Venue) -> Option<Step<'_>> {
+    /// The next call for the venue as it stands.
+    pub fn next(&mut self, venue: &Venue) -> Option<Call<'_>> {
         if self.left == 0 || (self.kind == Kind::Damaged && self.at >= self.bytes.len()) {
             return None;
         }
@@ -403,12 +403,12 @@ impl Session {
             let at = self.at;
             self.at = read_record(&self.bytes, at).map_or(at + 1, |(_, end)| end);
             let record = &self.bytes[at..];
-            return Some(Step { record, buffer });
+            return Some(Call { record, buffer });
         }
         let event = self.event(venue);
         self.bytes.clear();
         push_record(&mut self.bytes, &event);
-        Some(Step {
+        Some(Call {
             record: &self.bytes,
             buffer,
         })
