@@ -4,7 +4,7 @@
 use crate::engine;
 #[cfg(feature = "engine")]
 use crate::model::Venue;
-use crate::model::{read_record, Progress, RecordCheck, LEAST_BUFFER};
+use crate::model::{read_record, Progress, RecordCheck, CENT, LEAST_BUFFER};
 use crate::streams::{trace, Trace};
 use std::time::{Duration, Instant};
 
@@ -175,7 +175,7 @@ pub fn run() -> bool {
 }
 
 fn bench_book(book: usize) -> bool {
-    let trace = trace(SEED, book, EVENTS);
+    let trace = trace(CENT, SEED, book, EVENTS);
     let mut lent = Lent::for_parts(&trace);
     let names = players(&trace).into_iter().map(|(name, _)| name);
     let mut sides: Vec<Side> = names.map(Side::new).collect();

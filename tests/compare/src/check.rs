@@ -1,13 +1,17 @@
 //! `check`: the model alone against the paper's claims, after every event.
 
 use crate::account::{Account, Resting};
+use crate::by_cents;
 use crate::by_limits;
 use crate::counts::{Counts, Lent};
+use crate::document_01;
 use crate::model::{
     copy_out, depth, is_legal, permitted_price, read_record, watch_tape, write_record, Event,
     Order, OrderRecord, RecordCheck, Refusal, Report, ReportWriter, Side, Venue, Watch, BUY, CENT,
     LEAST_BUFFER, OPT_OUT, PLACES, SHORT,
 };
+use crate::price_rules;
+use crate::rng::Rng;
 use crate::sessions::{self, ensure, Examiner, Fault};
 use crate::streams::{Call, Session};
 
@@ -22,10 +26,12 @@ struct Checked {
     before: Venue,
     account: Option<Account>,
     lent: Lent,
+    rng: Rng,
 }
 
 impl Examiner for Checked {
-    fn start(&mut self, _: u64, session: &Session, _: &mut Counts) -> Result<(), Fault> {
+    fn start(&mut self, seed: u64, session: &Session, _: &mut Counts) -> Result<(), Fault> {
+        self.rng = Rng::new(!seed);
         let from_open = session.kind.is_from_open();
         self.venue = session.start.clone();
         self.account = from_open.then(|| Account::new(self.venue.close));
@@ -46,17 +52,16 @@ impl Examiner for Checked {
             }
         };
         check_round_trip(&event, &call.record[..end], counts.events as usize % 5)?;
+        price_rules::check(&mut self.rng, counts)?;
         self.before.clone_from(&self.venue);
         let buffer = self.lent.lend(call.buffer);
-        let answer = self.venue.apply(&event, buffer, RecordCheck::Done);
-        if answer != Err(Refusal::VenueRecord) {
-            let answer = answer.map(|count| self.lent.front(count));
-            by_limits::check(&self.before, &event, call.buffer, answer, &self.venue)?;
-        }
-        match answer {
+        match self.venue.apply(&event, buffer, RecordCheck::Done) {
             Err(refusal) => {
-                counts.refuse(&event, refusal);
+                counts.refuse(&self.venue, &event, refusal);
                 self.check_refused(&event, refusal)?;
+                if refusal != Refusal::VenueRecord {
+                    self.check_otherwise(&event, call.buffer, Err(refusal), counts)?;
+                }
                 ensure(self.lent.keeps_from(0), "a refused event wrote reports")
             }
             Ok(count) => {
@@ -66,6 +71,7 @@ impl Examiner for Checked {
                 self.lent.restore(count);
                 ensure(count <= LEAST_BUFFER, "16,384 bytes")?;
                 self.check_accepted(&event, &reports)?;
+                self.check_otherwise(&event, call.buffer, Ok(&reports), counts)?;
                 if counts.events.is_multiple_of(32) {
                     check_copy_out(&self.venue, counts.events as usize % 3)?;
                 }
@@ -91,7 +97,28 @@ impl Checked {
             venue,
             account: None,
             lent: Lent::new(),
+            rng: Rng::new(0),
         }
+    }
+
+    /// An event on a sound record does what document 01 says without market orders
+    /// and with its own step: by the same prices or by doubled ones.
+    fn check_otherwise(
+        &self,
+        event: &Event,
+        buffer: usize,
+        answer: Result<&[Report], Refusal>,
+        counts: &mut Counts,
+    ) -> Result<(), Fault> {
+        let (before, after) = (&self.before, &self.venue);
+        by_limits::check(before, event, buffer, answer, after)?;
+        let by_document_01 = before.step == CENT;
+        if by_document_01 {
+            document_01::check(before, event, answer, after)?;
+        }
+        let by_cents = by_cents::check(before, event, buffer, answer, after)?;
+        counts.half_cents.check(by_document_01, by_cents);
+        Ok(())
     }
 
     fn check_refused(&self, event: &Event, refusal: Refusal) -> Result<(), Fault> {

@@ -3,7 +3,8 @@
 //! What is taken for granted of the host calls beyond document 01: a record is
 //! read before the venue is looked at, so 9 to 12 come before 16; bytes behind
 //! the record don't matter; open refuses a run that is too short with 16, before
-//! 3 for the close; a fresh venue is 0 in every place; later, places that the
+//! 17 for the step and 3 for the close; the permitted price is 0 for both of
+//! these; a fresh venue is 0 in every place; later, places that the
 //! venue doesn't use may hold anything; words behind the venue keep their
 //! content; a side is a buy where it is 0, and depth refuses with 2^64 - 1. Play
 //! looks at the venue first, so there 16 comes before 9 to 12.
@@ -63,7 +64,7 @@ impl Pair {
         let applied = applied.map_err(|fault| format!("{fault}\n  in {read:?}"))?;
         match (read, applied.answer) {
             (Err(refusal), _) => counts.refuse_record(refusal),
-            (Ok((event, _)), Err(refusal)) => counts.refuse(&event, refusal),
+            (Ok((event, _)), Err(refusal)) => counts.refuse(&before, &event, refusal),
             (Ok((event, _)), Ok(count)) => {
                 let reports = Report::read_all(&applied.bytes);
                 let reports = reports.map_err(|refusal| format!("reports: {refusal:?}"))?;

@@ -5,6 +5,7 @@ mod account;
 #[cfg(feature = "engine")]
 mod applier;
 mod bench;
+mod by_cents;
 mod by_limits;
 #[cfg(feature = "engine")]
 mod caller;
@@ -14,10 +15,13 @@ mod compare;
 mod counts;
 #[cfg(test)]
 mod days;
+mod document_01;
 #[cfg(feature = "engine")]
 mod engine;
 #[cfg(test)]
 mod half_cent_days;
+mod half_cents;
+mod ladder;
 mod made_up;
 #[cfg(test)]
 mod market_days;
@@ -25,8 +29,10 @@ mod market_orders;
 mod model;
 #[cfg(feature = "engine")]
 mod observe;
+mod odd;
 #[cfg(any(test, feature = "engine"))]
 mod output;
+mod price_rules;
 mod program;
 #[cfg(feature = "engine")]
 mod replay;

@@ -4,10 +4,10 @@
 
 mod book;
 mod form;
-#[cfg(test)]
-mod half_cents;
 mod play;
 mod prices;
+#[cfg(test)]
+mod steps;
 mod venue;
 
 pub use book::{copy_out, depth, Order, OrderRecord, Side, BUY, OPT_OUT, PLACES, SHORT};
@@ -18,6 +18,8 @@ pub use form::{
 pub use play::Progress;
 #[cfg(feature = "engine")]
 pub use play::Stop;
+#[cfg(feature = "engine")]
+pub use prices::is_step;
 pub use prices::{
     is_legal, permitted_price, phase_after_day_end, phase_after_tape, watch_tape, Watch, CENT,
     DOLLAR, HALF_CENT, HIGHEST, LOWEST,
