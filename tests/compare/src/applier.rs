@@ -7,9 +7,9 @@ use crate::model::{permitted_price, read_record, Event, RecordCheck, Refusal};
 use crate::output::Output;
 use crate::sessions::Fault;
 use crate::sides::Sides;
-use crate::streams::Step;
+use crate::streams::Call;
 
-/// What a step got.
+/// What a call got.
 pub struct Applied {
     /// The model's answer, with which the engine's was compared in the call.
     pub answer: Result<usize, Refusal>,
@@ -21,8 +21,8 @@ pub struct Applied {
 }
 
 impl Applied {
-    /// The bytes of the step's record; where it can't be read, the first byte,
-    /// behind which the next step goes on.
+    /// The bytes of the call's record; where it can't be read, the first byte,
+    /// behind which the next call goes on.
     pub fn taken(&self) -> usize {
         self.length.max(1)
     }
@@ -48,14 +48,14 @@ impl Applier {
     }
 
     /// A call on both sides: the same answer, reports and venue.
-    pub fn call(&mut self, sides: &mut Sides, step: &Step) -> Result<Applied, Fault> {
-        let length = compare_record(step.record)?;
-        let read = read_record(step.record, 0);
+    pub fn call(&mut self, sides: &mut Sides, call: &Call) -> Result<Applied, Fault> {
+        let length = compare_record(sides.venue.step, call.record)?;
+        let read = read_record(call.record, 0);
         let [engine_lent, model_lent] = &mut self.lent;
         let (venue, words) = sides.lend();
-        let number = engine::apply(words, step.record, engine_lent.lend(step.buffer));
+        let number = engine::apply(words, call.record, engine_lent.lend(call.buffer));
         let answer = read.and_then(|(event, _)| {
-            let buffer = model_lent.lend(step.buffer);
+            let buffer = model_lent.lend(call.buffer);
             venue?.apply(&event, buffer, RecordCheck::Done)
         });
         same("answer", number, engine::answer_of(answer))?;
@@ -94,9 +94,9 @@ impl Applier {
     }
 }
 
-/// The record check, and the permitted price of a bid. Gives the engine's byte
-/// count of the record.
-fn compare_record(bytes: &[u8]) -> Result<usize, Fault> {
+/// The record check, and the permitted price of a bid at a step. Gives the
+/// engine's byte count of the record.
+fn compare_record(step: u32, bytes: &[u8]) -> Result<usize, Fault> {
     let read = read_record(bytes, 0);
     let length = engine::record_check(bytes);
     same(
@@ -105,8 +105,9 @@ fn compare_record(bytes: &[u8]) -> Result<usize, Fault> {
         read.map_or(0, |(_, end)| end as u64),
     )?;
     if let Ok((Event::Bid { price }, _)) = read {
-        let expected = permitted_price(price).unwrap_or(0);
-        same("permitted price", engine::permitted_price(price), expected)?;
+        let expected = permitted_price(step, price).unwrap_or(0);
+        let found = engine::permitted_price(step, price);
+        same("permitted price", found, expected)?;
     }
     Ok(length as usize)
 }

@@ -4,7 +4,7 @@
 use crate::engine;
 #[cfg(feature = "engine")]
 use crate::model::Venue;
-use crate::model::{read_record, Progress, RecordCheck, LEAST_BUFFER};
+use crate::model::{read_record, Progress, RecordCheck, CENT, HALF_CENT, LEAST_BUFFER};
 use crate::streams::{trace, Trace};
 use std::time::{Duration, Instant};
 
@@ -168,14 +168,18 @@ impl Side {
     }
 }
 
-/// Times every side on every book, round by round in turn. Gives whether all
-/// sides wrote as many report bytes.
+/// Times every side on every book, round by round in turn, at the step of a cent
+/// and then at the half-cent step. Gives whether all sides wrote as many report
+/// bytes.
 pub fn run() -> bool {
-    BOOKS.map(bench_book).into_iter().all(|same| same)
+    let cents = BOOKS.map(|book| bench_book(CENT, book));
+    println!("half-cent stocks:");
+    let half_cents = BOOKS.map(|book| bench_book(HALF_CENT, book));
+    cents.into_iter().chain(half_cents).all(|same| same)
 }
 
-fn bench_book(book: usize) -> bool {
-    let trace = trace(SEED, book, EVENTS);
+fn bench_book(step: u32, book: usize) -> bool {
+    let trace = trace(step, SEED, book, EVENTS);
     let mut lent = Lent::for_parts(&trace);
     let names = players(&trace).into_iter().map(|(name, _)| name);
     let mut sides: Vec<Side> = names.map(Side::new).collect();

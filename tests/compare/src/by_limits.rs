@@ -1,7 +1,9 @@
 //! No. 1 of document 02 in document 01's words: each event on a venue with
 //! market orders does what another event does on a venue without.
 
-use crate::model::{Entry, Event, Order, RecordCheck, Refusal, Venue, BUY, HIGHEST, LOWEST, SHORT};
+use crate::model::{
+    Entry, Event, Order, RecordCheck, Refusal, Report, Venue, BUY, HIGHEST, LOWEST, SHORT,
+};
 use crate::sessions::{ensure, Fault};
 
 /// The same venue, with shorts of the same limit for its market shorts.
@@ -62,13 +64,13 @@ fn passes_with_no_bid(venue: &Venue, event: &Event) -> bool {
     }
 }
 
-/// Checks an event with a report buffer of that length, whose answer is the bytes
-/// of its reports or a refusal other than 16.
+/// Checks an event with a report buffer of that length, whose answer is its
+/// reports or a refusal other than 16.
 pub fn check(
     before: &Venue,
     event: &Event,
     buffer: usize,
-    answer: Result<&[u8], Refusal>,
+    answer: Result<&[Report], Refusal>,
     after: &Venue,
 ) -> Result<(), Fault> {
     let no_bid = passes_with_no_bid(before, event);
@@ -81,8 +83,9 @@ pub fn check(
     let mut bytes = vec![0; buffer];
     let other_event = by_limit(before, event);
     let other_answer = other.apply(&other_event, &mut bytes, RecordCheck::Done);
-    let other_answer = other_answer.map(|count| &bytes[..count]);
-    ensure(answer == other_answer, "the answer by limits")?;
+    let other_answer = other_answer.and_then(|count| Report::read_all(&bytes[..count]));
+    let same = answer == other_answer.as_deref().map_err(|refusal| *refusal);
+    ensure(same, "the answer by limits")?;
     ensure(without(after) == other, "the venue by limits")?;
     if no_bid {
         let stay = market_shorts(before).eq(market_shorts(after));
@@ -114,7 +117,7 @@ mod tests {
 
     /// Checks an event on a venue with a market short at 90,100, with what comes
     /// after it.
-    fn checked(event: Event, answer: &[u8], change: impl Fn(&mut Venue)) -> Result<(), Fault> {
+    fn checked(event: Event, bytes: &[u8], change: impl Fn(&mut Venue)) -> Result<(), Fault> {
         let short = Order {
             id: 1,
             mark: SHORT,
@@ -138,12 +141,13 @@ mod tests {
             last_stamp: 1,
             accepted: 3,
             orders: vec![short],
-            ..Venue::fresh(100_000)
+            ..Venue::fresh(100, 100_000)
         };
         let mut after = before.clone();
         after.accepted += 1;
         change(&mut after);
-        check(&before, &event, 16_384, Ok(answer), &after)
+        let reports = Report::read_all(bytes).expect("reports");
+        check(&before, &event, 16_384, Ok(&reports), &after)
     }
 
     #[test]

@@ -1,15 +1,19 @@
 //! `check`: the model alone against the paper's claims, after every event.
 
 use crate::account::{Account, Resting};
+use crate::by_cents;
 use crate::by_limits;
 use crate::counts::{Counts, Lent};
+use crate::document_01;
 use crate::model::{
     copy_out, depth, is_legal, permitted_price, read_record, watch_tape, write_record, Event,
-    Order, OrderRecord, RecordCheck, Refusal, Report, ReportWriter, Side, Venue, Watch, BUY,
+    Order, OrderRecord, RecordCheck, Refusal, Report, ReportWriter, Side, Venue, Watch, BUY, CENT,
     LEAST_BUFFER, OPT_OUT, PLACES, SHORT,
 };
+use crate::price_rules;
+use crate::rng::Rng;
 use crate::sessions::{self, ensure, Examiner, Fault};
-use crate::streams::{Session, Step};
+use crate::streams::{Call, Session};
 
 /// Plays sessions until so many events are over. Gives whether all claims held.
 pub fn run(seed: u64, events: u64) -> bool {
@@ -22,14 +26,16 @@ struct Checked {
     before: Venue,
     account: Option<Account>,
     lent: Lent,
+    rng: Rng,
 }
 
 impl Examiner for Checked {
-    fn start(&mut self, _: u64, session: &Session, _: &mut Counts) -> Result<(), Fault> {
+    fn start(&mut self, seed: u64, session: &Session, _: &mut Counts) -> Result<(), Fault> {
+        self.rng = Rng::new(!seed);
         let from_open = session.kind.is_from_open();
         self.venue = session.start.clone();
         self.account = from_open.then(|| Account::new(self.venue.close));
-        let opened = Venue::open(self.venue.close);
+        let opened = Venue::open(self.venue.step, self.venue.close);
         ensure(!from_open || opened.as_ref() == Ok(&self.venue), "open")
     }
 
@@ -37,26 +43,25 @@ impl Examiner for Checked {
         &self.venue
     }
 
-    fn step(&mut self, step: &Step, counts: &mut Counts) -> Result<(), Fault> {
-        let (event, end) = match read_record(step.record, 0) {
+    fn event(&mut self, call: &Call, counts: &mut Counts) -> Result<(), Fault> {
+        let (event, end) = match read_record(call.record, 0) {
             Ok(read) => read,
             Err(refusal) => {
                 counts.refuse_record(refusal);
                 return Ok(());
             }
         };
-        check_round_trip(&event, &step.record[..end], counts.events as usize % 5)?;
+        check_round_trip(&event, &call.record[..end], counts.events as usize % 5)?;
+        price_rules::check(&mut self.rng, counts)?;
         self.before.clone_from(&self.venue);
-        let buffer = self.lent.lend(step.buffer);
-        let answer = self.venue.apply(&event, buffer, RecordCheck::Done);
-        if answer != Err(Refusal::VenueRecord) {
-            let answer = answer.map(|count| self.lent.front(count));
-            by_limits::check(&self.before, &event, step.buffer, answer, &self.venue)?;
-        }
-        match answer {
+        let buffer = self.lent.lend(call.buffer);
+        match self.venue.apply(&event, buffer, RecordCheck::Done) {
             Err(refusal) => {
-                counts.refuse(&event, refusal);
+                counts.refuse(&self.venue, &event, refusal);
                 self.check_refused(&event, refusal)?;
+                if refusal != Refusal::VenueRecord {
+                    self.check_otherwise(&event, call.buffer, Err(refusal), counts)?;
+                }
                 ensure(self.lent.keeps_from(0), "a refused event wrote reports")
             }
             Ok(count) => {
@@ -66,6 +71,7 @@ impl Examiner for Checked {
                 self.lent.restore(count);
                 ensure(count <= LEAST_BUFFER, "16,384 bytes")?;
                 self.check_accepted(&event, &reports)?;
+                self.check_otherwise(&event, call.buffer, Ok(&reports), counts)?;
                 if counts.events.is_multiple_of(32) {
                     check_copy_out(&self.venue, counts.events as usize % 3)?;
                 }
@@ -85,13 +91,34 @@ impl Examiner for Checked {
 
 impl Checked {
     fn new() -> Self {
-        let venue = Venue::fresh(1);
+        let venue = Venue::fresh(CENT, 1);
         Checked {
             before: venue.clone(),
             venue,
             account: None,
             lent: Lent::new(),
+            rng: Rng::new(0),
         }
+    }
+
+    /// An event on a sound record does what document 01 says without market orders
+    /// and with its own step: by the same prices or by doubled ones.
+    fn check_otherwise(
+        &self,
+        event: &Event,
+        buffer: usize,
+        answer: Result<&[Report], Refusal>,
+        counts: &mut Counts,
+    ) -> Result<(), Fault> {
+        let (before, after) = (&self.before, &self.venue);
+        by_limits::check(before, event, buffer, answer, after)?;
+        let by_document_01 = before.step == CENT;
+        if by_document_01 {
+            document_01::check(before, event, answer, after)?;
+        }
+        let by_cents = by_cents::check(before, event, buffer, answer, after)?;
+        counts.half_cents.check(by_document_01, by_cents);
+        Ok(())
     }
 
     fn check_refused(&self, event: &Event, refusal: Refusal) -> Result<(), Fault> {
@@ -113,7 +140,7 @@ impl Checked {
         match *event {
             Event::Tape { price } if refusal == Refusal::Price => check_watch(&self.before, price),
             Event::Bid { price } if refusal == Refusal::Price => ensure(
-                permitted_price(price) == Err(Refusal::Price),
+                permitted_price(self.venue.step, price) == Err(Refusal::Price),
                 "the permitted price refuses what isn't a bid",
             ),
             _ => Ok(()),
@@ -127,7 +154,7 @@ impl Checked {
         check_stamps(before, venue, event, reports)?;
         match *event {
             Event::Tape { price } => check_watch(before, price)?,
-            Event::Bid { price } => check_permitted(price)?,
+            Event::Bid { price } => check_permitted(before.step, price)?,
             _ => {}
         }
         let Some(account) = &mut self.account else {
@@ -237,20 +264,26 @@ fn check_watch(before: &Venue, price: u32) -> Result<(), Fault> {
         close: before.close,
         phase: before.phase,
     };
-    let answer = watch_tape(&mut watch, price);
+    let answer = watch_tape(&mut watch, before.step, price);
     let triggers = u64::from(price) * 10 <= u64::from(before.close) * 9;
     let phase = match before.phase {
         0 if answer.is_ok() && triggers => 1,
         phase => phase,
     };
-    ensure(answer.is_ok() == is_legal(price), "the watch's refusal")?;
+    ensure(
+        answer.is_ok() == is_legal(before.step, price),
+        "the watch's refusal",
+    )?;
     ensure(watch.phase == phase, "the watch's phase")
 }
 
 /// The permitted price is the lowest legal price above the bid.
-fn check_permitted(bid: u32) -> Result<(), Fault> {
-    let above = (bid + 1..).find(|&price| is_legal(price));
-    ensure(permitted_price(bid).ok() == above, "the permitted price")
+fn check_permitted(step: u32, bid: u32) -> Result<(), Fault> {
+    let above = (bid + 1..).find(|&price| is_legal(step, price));
+    ensure(
+        permitted_price(step, bid).ok() == above,
+        "the permitted price",
+    )
 }
 
 /// Copy out fills the front of a run that is one record short, exact or one

@@ -3,7 +3,8 @@
 //! What is taken for granted of the host calls beyond document 01: a record is
 //! read before the venue is looked at, so 9 to 12 come before 16; bytes behind
 //! the record don't matter; open refuses a run that is too short with 16, before
-//! 3 for the close; a fresh venue is 0 in every place; later, places that the
+//! 17 for the step and 3 for the close; the permitted price is 0 for both of
+//! these; a fresh venue is 0 in every place; later, places that the
 //! venue doesn't use may hold anything; words behind the venue keep their
 //! content; a side is a buy where it is 0, and depth refuses with 2^64 - 1. Play
 //! looks at the venue first, so there 16 comes before 9 to 12.
@@ -16,7 +17,7 @@ use crate::replay::Replay;
 use crate::rng::Rng;
 use crate::sessions::{self, Examiner, Fault};
 use crate::sides::Sides;
-use crate::streams::{Session, Step};
+use crate::streams::{Call, Session};
 
 /// At so many events, on average, the observing calls are compared once.
 const EVENTS_A_LOOK: u32 = 8;
@@ -55,15 +56,15 @@ impl Pair {
         }
     }
 
-    /// Compares a step, and counts what it got.
-    fn apply(&mut self, step: &Step, counts: &mut Counts) -> Result<Applied, Fault> {
-        let read = read_record(step.record, 0);
+    /// Compares a call of apply, and counts what it got.
+    fn apply(&mut self, call: &Call, counts: &mut Counts) -> Result<Applied, Fault> {
+        let read = read_record(call.record, 0);
         let before = self.sides.venue.clone();
-        let applied = self.applier.call(&mut self.sides, step);
+        let applied = self.applier.call(&mut self.sides, call);
         let applied = applied.map_err(|fault| format!("{fault}\n  in {read:?}"))?;
         match (read, applied.answer) {
             (Err(refusal), _) => counts.refuse_record(refusal),
-            (Ok((event, _)), Err(refusal)) => counts.refuse(&event, refusal),
+            (Ok((event, _)), Err(refusal)) => counts.refuse(&before, &event, refusal),
             (Ok((event, _)), Ok(count)) => {
                 let reports = Report::read_all(&applied.bytes);
                 let reports = reports.map_err(|refusal| format!("reports: {refusal:?}"))?;
@@ -97,18 +98,18 @@ impl Examiner for Pair {
         &self.sides.venue
     }
 
-    fn step(&mut self, step: &Step, counts: &mut Counts) -> Result<(), Fault> {
-        let mut applied = self.apply(step, counts)?;
+    fn event(&mut self, call: &Call, counts: &mut Counts) -> Result<(), Fault> {
+        let mut applied = self.apply(call, counts)?;
         if applied.answer == Err(Refusal::ShortBuffer) {
             // Once more with room, as a host would; so the event is one of a
             // play too.
-            let again = Step {
+            let again = Call {
                 buffer: LEAST_BUFFER,
-                ..*step
+                ..*call
             };
             applied = self.apply(&again, counts)?;
         }
-        self.replay.gather(step.record, &applied);
+        self.replay.gather(call.record, &applied);
         if self.rng.one_in(EVENTS_A_LOOK) {
             self.look(counts)?;
         }

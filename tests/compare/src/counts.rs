@@ -1,8 +1,9 @@
 //! What a run counts, and the buffer that it lends.
 
+use crate::half_cents::HalfCents;
 use crate::market_orders::MarketOrders;
 #[cfg(feature = "engine")]
-use crate::model::Stop;
+use crate::model::{is_step, Stop};
 use crate::model::{Event, Refusal, Report, Venue};
 use crate::rng::Rng;
 use crate::streams::{Kind, Session, MOST_BUFFER};
@@ -15,7 +16,7 @@ const MOST_PRINTED: u64 = 10;
 #[derive(Default)]
 pub struct Answers {
     accepted: u64,
-    refused: [u64; 17],
+    refused: [u64; 18],
 }
 
 impl Answers {
@@ -49,6 +50,7 @@ pub struct Counts {
     repricings: u64,
     most_bytes: usize,
     market_orders: MarketOrders,
+    pub half_cents: HalfCents,
     #[cfg(feature = "engine")]
     host: HostCounts,
 }
@@ -62,6 +64,7 @@ struct HostCounts {
     copied: u64,
     depths: Answers,
     large_depths: u64,
+    permitted: Answers,
     watches: Answers,
     triggers: u64,
     plays: PlayCounts,
@@ -86,6 +89,7 @@ impl Counts {
     pub fn session(&mut self, session: &Session) {
         self.sessions[session.kind as usize] += 1;
         self.market_orders.start(&session.start);
+        self.half_cents.start(session);
     }
 
     /// A record that can't be read.
@@ -93,9 +97,11 @@ impl Counts {
         self.answers.add::<()>(Err(refusal));
     }
 
-    pub fn refuse(&mut self, event: &Event, refusal: Refusal) {
+    /// A refused event, with the venue, which stays.
+    pub fn refuse(&mut self, venue: &Venue, event: &Event, refusal: Refusal) {
         self.answers.add::<()>(Err(refusal));
         self.market_orders.refuse(event, refusal);
+        self.half_cents.refuse(venue.step, event, refusal);
     }
 
     /// An accepted event, with the venue before it, the byte count of its
@@ -103,6 +109,7 @@ impl Counts {
     pub fn accept(&mut self, before: &Venue, event: &Event, bytes: usize, reports: &[Report]) {
         self.answers.add(Ok(()));
         self.market_orders.accept(before, event, reports);
+        self.half_cents.accept(before, event, reports);
         self.most_bytes = self.most_bytes.max(bytes);
         for report in reports {
             match report {
@@ -113,18 +120,26 @@ impl Counts {
         }
     }
 
-    pub fn differ(&mut self, seed: u64, step: u64, what: &str) {
+    pub fn differ(&mut self, seed: u64, event: u64, what: &str) {
         self.differences += 1;
         if self.differences <= MOST_PRINTED {
-            println!("difference in session {seed:#x} at step {step}: {what}");
+            println!("difference in session {seed:#x} at event {event}: {what}");
         }
     }
 }
 
 #[cfg(feature = "engine")]
 impl Counts {
-    pub fn open<T>(&mut self, answer: Result<T, Refusal>) {
+    pub fn open(&mut self, step: u32, close: u32, answer: Result<usize, Refusal>) {
         self.host.opens.add(answer);
+        self.half_cents.open(step, close, answer);
+        let short = answer == Err(Refusal::VenueRecord);
+        self.half_cents.open_run(short && !is_step(step));
+    }
+
+    pub fn permitted(&mut self, step: u32, bid: u32, answer: Result<u32, Refusal>) {
+        self.host.permitted.add(answer);
+        self.half_cents.permitted(step, bid, answer);
     }
 
     pub fn copy(&mut self, answer: Result<usize, Refusal>) {
@@ -137,9 +152,10 @@ impl Counts {
         self.host.large_depths += u64::from(answer.is_ok_and(|sum| sum > u32::MAX.into()));
     }
 
-    pub fn watch(&mut self, answer: Result<(), Refusal>, triggers: bool) {
+    pub fn watch(&mut self, step: u32, price: u32, answer: Result<(), Refusal>, triggers: bool) {
         self.host.watches.add(answer);
         self.host.triggers += u64::from(triggers);
+        self.half_cents.watch(step, price, answer);
     }
 
     pub fn day(&mut self) {
@@ -216,6 +232,8 @@ impl fmt::Display for HostCounts {
             "depths {} over 32 bits {large} {depths}",
             depths.accepted
         )?;
+        let permitted = &self.permitted;
+        writeln!(f, "permitted prices {} {permitted}", permitted.accepted)?;
         let triggers = self.triggers;
         writeln!(
             f,
@@ -243,6 +261,7 @@ impl fmt::Display for Counts {
         )?;
         writeln!(f, "{}", self.answers)?;
         writeln!(f, "{}", self.market_orders)?;
+        writeln!(f, "{}", self.half_cents)?;
         #[cfg(feature = "engine")]
         if self.host.copies.accepted > 0 {
             write!(f, "{}", self.host)?;

@@ -29,7 +29,7 @@ pub const FLAGS: usize = 4;
 
 // The calls of include/venue.h; a slice is a pointer and a length.
 extern "C" {
-    fn venue_open(words: *mut u32, words_len: usize, close: u32) -> u32;
+    fn venue_open(words: *mut u32, words_len: usize, step: u32, close: u32) -> u32;
     fn venue_apply(
         words: *mut u32,
         words_len: usize,
@@ -51,7 +51,7 @@ extern "C" {
         progress: *mut Progress,
     ) -> u32;
     fn venue_record_check(bytes: *const u8, len: usize) -> u64;
-    fn venue_permitted_price(bid: u32) -> u32;
+    fn venue_permitted_price(step: u32, bid: u32) -> u32;
     fn venue_copy_out(
         words: *const u32,
         words_len: usize,
@@ -59,7 +59,7 @@ extern "C" {
         run_len: usize,
     ) -> u32;
     fn venue_depth(run: *const OrderRecord, run_len: usize, price: u32, side: u32) -> u64;
-    fn venue_watch(watch: *mut Watch, price: u32) -> u32;
+    fn venue_watch(watch: *mut Watch, step: u32, price: u32) -> u32;
 }
 
 /// The header's `struct venue_order` has a word a field.
@@ -68,9 +68,9 @@ const _: () = assert!(size_of::<OrderRecord>() == 4 * ORDER_WORDS && size_of::<W
 const _: () = assert!(size_of::<Progress>() == 24);
 
 /// Makes the words a fresh venue. Answers as `apply`, with no reports.
-pub fn open(words: &mut [u32], close: u32) -> u32 {
+pub fn open(words: &mut [u32], step: u32, close: u32) -> u32 {
     // SAFETY: pointer and length are those of a slice lent for the call.
-    unsafe { venue_open(words.as_mut_ptr(), words.len(), close) }
+    unsafe { venue_open(words.as_mut_ptr(), words.len(), step, close) }
 }
 
 /// Reads a record at the front of the bytes and applies it. Answers refusal ×
@@ -123,10 +123,10 @@ pub fn record_check(bytes: &[u8]) -> u64 {
     unsafe { venue_record_check(bytes.as_ptr(), bytes.len()) }
 }
 
-/// The permitted price of a bid, 0 if it isn't one.
-pub fn permitted_price(bid: u32) -> u32 {
-    // SAFETY: the function takes any number.
-    unsafe { venue_permitted_price(bid) }
+/// The permitted price of a bid at a step, 0 if it isn't one.
+pub fn permitted_price(step: u32, bid: u32) -> u32 {
+    // SAFETY: the function takes any numbers.
+    unsafe { venue_permitted_price(step, bid) }
 }
 
 /// Copies the orders to the front of the run. Answers refusal × 65,536 + how
@@ -145,9 +145,9 @@ pub fn depth(run: &mut [OrderRecord], price: u32, side: u32) -> u64 {
 }
 
 /// A tape price for a host's watch. Answers as `apply`, with no reports.
-pub fn watch(watch: &mut Watch, price: u32) -> u32 {
+pub fn watch(watch: &mut Watch, step: u32, price: u32) -> u32 {
     // SAFETY: the pointer is that of a record lent for the call.
-    unsafe { venue_watch(watch, price) }
+    unsafe { venue_watch(watch, step, price) }
 }
 
 /// The engine's answer that says the same as the model's.
@@ -169,6 +169,7 @@ fn header_of(venue: &Venue) -> [u32; HEADER_WORDS] {
         venue.last_id,
         venue.last_stamp,
         venue.accepted,
+        venue.step,
     ];
     let mut words = [0; HEADER_WORDS];
     words[..fields.len()].copy_from_slice(&fields);

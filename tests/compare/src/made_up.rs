@@ -1,8 +1,11 @@
 //! Venue records that open need not reach, sound and spoilt.
 
-use crate::model::{Order, Venue, HIGHEST, LOWEST, MOST_EVENTS, MOST_SHARES, PLACES, SHORT};
+use crate::model::{
+    Order, Venue, CENT, HALF_CENT, HIGHEST, LOWEST, MOST_EVENTS, MOST_SHARES, PLACES, SHORT,
+};
+use crate::odd::{half_cent_price, odd_number, odd_price, odd_step};
 use crate::rng::Rng;
-use crate::streams::{near, odd_number, price_of, Market};
+use crate::streams::Market;
 
 /// So many different numbers from 1 to `last`, rising.
 fn rising(rng: &mut Rng, count: u32, last: u32) -> Vec<u32> {
@@ -39,6 +42,7 @@ pub fn made_up(rng: &mut Rng, market: &Market) -> Venue {
     let bid = market.bid(rng, 0);
     let ids = rising(rng, count, last_id).into_iter().zip(stamps);
     Venue {
+        step: market.ladder.step,
         close: market.close(rng),
         phase: rng.up_to(2),
         bid,
@@ -54,7 +58,7 @@ pub fn made_up(rng: &mut Rng, market: &Market) -> Venue {
 fn made_up_order(rng: &mut Rng, market: &Market, id: u32, stamp: u32) -> Order {
     let mark = rng.pick(market.marks);
     let lowest = mark == SHORT && rng.one_in(3);
-    let limit = near(rng, market.centre, market.reach);
+    let limit = market.ladder.near(rng, market.centre, market.reach);
     Order {
         id,
         mark,
@@ -67,7 +71,7 @@ fn made_up_order(rng: &mut Rng, market: &Market, id: u32, stamp: u32) -> Order {
             _ => 0,
         },
         stamp,
-        price: near(rng, market.centre, market.reach),
+        price: market.ladder.near(rng, market.centre, market.reach),
         entry_bid: market.bid(rng, 0),
         adjusted: rng.one_in(2),
         used: rng.one_in(2),
@@ -82,7 +86,7 @@ pub fn sink_shorts(venue: &mut Venue, market: &Market) {
     venue.phase = 1;
     let shorts = venue.orders.iter_mut().filter(|order| order.mark == SHORT);
     for order in shorts {
-        order.price = price_of(rung);
+        order.price = market.ladder.price_of(rung);
         order.show = 0;
         order.slide = 0;
     }
@@ -92,7 +96,7 @@ pub fn sink_shorts(venue: &mut Venue, market: &Market) {
 pub fn spoil_record(rng: &mut Rng, venue: &mut Venue) {
     let odd = odd_number(rng);
     let len = venue.orders.len();
-    match rng.up_to(19) {
+    match rng.up_to(31) {
         0 => venue.close = odd,
         1 => venue.phase = odd,
         2 => venue.bid = odd,
@@ -106,6 +110,8 @@ pub fn spoil_record(rng: &mut Rng, venue: &mut Venue) {
             venue.last_id = venue.last_id.max(id);
             venue.orders.push(Order { id, ..last });
         }
+        8..14 => spoil_step(rng, venue),
+        14..20 => spoil_price(rng, venue),
         _ if len > 0 => {
             let (at, any) = (rng.place(len), rng.place(len));
             let other = rng.pick(&[at.saturating_sub(1), any]);
@@ -113,6 +119,34 @@ pub fn spoil_record(rng: &mut Rng, venue: &mut Venue) {
         }
         _ => {}
     }
+}
+
+/// Says the other step, which breaks a record with half-cent prices and no
+/// other, or what isn't a step.
+fn spoil_step(rng: &mut Rng, venue: &mut Venue) {
+    let other = match venue.step {
+        HALF_CENT => CENT,
+        _ => HALF_CENT,
+    };
+    let odd = odd_step(rng);
+    venue.step = rng.pick(&[other, other, odd]);
+}
+
+/// Puts a number in one place where a price or a bid stands: mostly one that is
+/// legal at the half-cent step alone.
+fn spoil_price(rng: &mut Rng, venue: &mut Venue) {
+    let (half_cents, odd) = (half_cent_price(rng), odd_price(rng));
+    let number = rng.pick(&[half_cents, half_cents, HIGHEST - HALF_CENT, odd]);
+    let len = venue.orders.len();
+    let place = match rng.up_to(4) {
+        0 => &mut venue.close,
+        1 => &mut venue.bid,
+        _ if len == 0 => &mut venue.bid,
+        2 => &mut venue.orders[rng.place(len)].limit,
+        3 => &mut venue.orders[rng.place(len)].price,
+        _ => &mut venue.orders[rng.place(len)].entry_bid,
+    };
+    *place = number;
 }
 
 fn spoil_order(rng: &mut Rng, venue: &mut Venue, at: usize, other: usize, odd: u32) {

@@ -1,10 +1,11 @@
-//! A second implementation of the venue of document 01 and of No. 1 of document
-//! 02, and its comparison with the proved engine. See README.md.
+//! A second implementation of the venue of document 01 and of No. 1 and No. 2 of
+//! document 02, and its comparison with the proved engine. See README.md.
 
 mod account;
 #[cfg(feature = "engine")]
 mod applier;
 mod bench;
+mod by_cents;
 mod by_limits;
 #[cfg(feature = "engine")]
 mod caller;
@@ -12,8 +13,15 @@ mod check;
 #[cfg(feature = "engine")]
 mod compare;
 mod counts;
+#[cfg(test)]
+mod days;
+mod document_01;
 #[cfg(feature = "engine")]
 mod engine;
+#[cfg(test)]
+mod half_cent_days;
+mod half_cents;
+mod ladder;
 mod made_up;
 #[cfg(test)]
 mod market_days;
@@ -21,8 +29,10 @@ mod market_orders;
 mod model;
 #[cfg(feature = "engine")]
 mod observe;
+mod odd;
 #[cfg(any(test, feature = "engine"))]
 mod output;
+mod price_rules;
 mod program;
 #[cfg(feature = "engine")]
 mod replay;
@@ -32,12 +42,14 @@ mod sessions;
 mod sides;
 mod streams;
 
+use model::{CENT, HALF_CENT};
 use std::io::{self, Read, Write};
 use std::path::Path;
 use std::process::ExitCode;
 
-const USAGE: &str = "usage: compare play [FILE] | vectors DIR | check SEED EVENTS | bench
-       with the feature `engine` also: compare SEED EVENTS";
+const USAGE: &str = "usage: compare play [--step STEP] [FILE] | vectors [--step STEP] DIR |
+       check SEED EVENTS | bench; with the feature `engine` also: compare SEED EVENTS
+       STEP is 50 or 100, without it 100";
 
 fn main() -> ExitCode {
     let arguments: Vec<String> = std::env::args().skip(1).collect();
@@ -55,9 +67,8 @@ fn main() -> ExitCode {
 /// Runs a subcommand and gives whether all was well.
 fn run(words: &[&str]) -> io::Result<bool> {
     match *words {
-        ["play"] => play(io::stdin()),
-        ["play", path] => play(std::fs::File::open(path)?),
-        ["vectors", directory] => program::run_vectors(Path::new(directory)),
+        ["play", ref rest @ ..] => play(rest),
+        ["vectors", ref rest @ ..] => run_vectors(rest),
         ["check", seed, events] => Ok(check::run(number(seed)?, number(events)?)),
         ["bench"] => Ok(bench::run()),
         #[cfg(feature = "engine")]
@@ -66,16 +77,41 @@ fn run(words: &[&str]) -> io::Result<bool> {
     }
 }
 
+/// The step that the words begin with, without one that of program `venue`; and
+/// the words behind it.
+fn take_step<'a, 'b>(words: &'a [&'b str]) -> (u32, &'a [&'b str]) {
+    match words {
+        ["--step", "50", rest @ ..] => (HALF_CENT, rest),
+        ["--step", "100", rest @ ..] => (CENT, rest),
+        _ => (CENT, words),
+    }
+}
+
 fn number(word: &str) -> io::Result<u64> {
     word.parse()
         .map_err(|_| io::Error::other(format!("{word} isn't a number; {USAGE}")))
 }
 
-fn play(input: impl Read) -> io::Result<bool> {
+fn run_vectors(words: &[&str]) -> io::Result<bool> {
+    match take_step(words) {
+        (step, [directory]) => program::run_vectors(step, Path::new(directory)),
+        _ => Err(io::Error::other(USAGE)),
+    }
+}
+
+fn play(words: &[&str]) -> io::Result<bool> {
+    match take_step(words) {
+        (step, []) => play_input(step, io::stdin()),
+        (step, [path]) => play_input(step, std::fs::File::open(path)?),
+        _ => Err(io::Error::other(USAGE)),
+    }
+}
+
+fn play_input(step: u32, input: impl Read) -> io::Result<bool> {
     let mut bytes = Vec::new();
     input
         .take(program::MOST_INPUT as u64)
         .read_to_end(&mut bytes)?;
-    io::stdout().write_all(program::play(&bytes).as_bytes())?;
+    io::stdout().write_all(program::play(step, &bytes).as_bytes())?;
     Ok(true)
 }

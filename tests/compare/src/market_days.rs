@@ -1,48 +1,13 @@
 //! Days with market orders, worked out by hand from No. 1 of document 02.
 
-use crate::model::{write_number, LONGEST_NUMBER};
+use crate::days::{self, after_close, push_event, Played, ON};
+use crate::model::CENT;
 use crate::program::play;
 
-/// An event, its kind as a word, and the lines that the program prints for it.
-type Played = (&'static str, &'static [&'static str]);
-
-fn push_number(input: &mut Vec<u8>, number: u64) {
-    let mut bytes = [0; LONGEST_NUMBER];
-    let end = write_number(&mut bytes, 0, number);
-    input.extend_from_slice(&bytes[..end]);
-}
-
-fn push_event(input: &mut Vec<u8>, event: &str) {
-    for word in event.split(' ') {
-        let number = match word {
-            "entry" => 1,
-            "cancel" => 2,
-            "bid" => 3,
-            "tape" => 4,
-            "end" => 5,
-            number => number.parse().expect("a number"),
-        };
-        push_number(input, number);
-    }
-}
-
-/// Plays the day up to each of its events after a close of 100,000.
+/// A day at the step of document 01.
 fn assert_day(day: &[Played]) {
-    let mut input = Vec::new();
-    push_number(&mut input, 100_000);
-    let mut expected = String::new();
-    for (event, lines) in day {
-        push_event(&mut input, event);
-        for line in *lines {
-            expected.push_str(line);
-            expected.push('\n');
-        }
-        assert_eq!(play(&input), expected, "{event}");
-    }
+    days::assert_day(CENT, day);
 }
-
-/// The restriction is on, and the bid is 91,000.
-const ON: [Played; 2] = [("bid 91000", &[]), ("tape 90000", &["5"])];
 
 /// A restricted day that goes on from there.
 fn assert_restricted_day(day: &[Played]) {
@@ -286,8 +251,7 @@ fn refusals_of_market_orders() {
 /// "7 if 256 orders rest", also for a market order of either kind (F1.6).
 #[test]
 fn a_full_book_refuses_market_orders() {
-    let mut input = Vec::new();
-    push_number(&mut input, 100_000);
+    let mut input = after_close(100_000);
     ON.iter()
         .for_each(|(event, _)| push_event(&mut input, event));
     for id in 1..=256 {
@@ -296,7 +260,7 @@ fn a_full_book_refuses_market_orders() {
     for event in ["entry 257 2 0 5 1 0 0", "entry 257 0 0 5 1 0 0"] {
         push_event(&mut input, event);
     }
-    let lines = play(&input);
+    let lines = play(CENT, &input);
     let last: Vec<&str> = lines.lines().skip(256).collect();
     assert_eq!(last, ["1 256 256 91100", "0 7", "0 7"]);
 }

@@ -1,11 +1,13 @@
-//! A plain implementation of document 01 and, of document 02, of No. 1, written
-//! from the papers and the readings alone. Comments in quotation marks are
+//! A plain implementation of document 01 and, of document 02, of No. 1 and No. 2,
+//! written from the papers and the readings alone. Comments in quotation marks are
 //! sentences of the papers, letters with numbers (A1, F1.3) are readings.
 
 mod book;
 mod form;
 mod play;
 mod prices;
+#[cfg(test)]
+mod steps;
 mod venue;
 
 pub use book::{copy_out, depth, Order, OrderRecord, Side, BUY, OPT_OUT, PLACES, SHORT};
@@ -16,9 +18,11 @@ pub use form::{
 pub use play::Progress;
 #[cfg(feature = "engine")]
 pub use play::Stop;
+#[cfg(feature = "engine")]
+pub use prices::is_step;
 pub use prices::{
-    is_legal, permitted_price, phase_after_day_end, phase_after_tape, watch_tape, Watch, DOLLAR,
-    HIGHEST, HIGHEST_BID, LOWEST, STEP,
+    is_legal, permitted_price, phase_after_day_end, phase_after_tape, watch_tape, Watch, CENT,
+    DOLLAR, HALF_CENT, HIGHEST, LOWEST,
 };
 pub use venue::{RecordCheck, Venue, LEAST_BUFFER, MOST_EVENTS, MOST_SHARES};
 
@@ -42,6 +46,7 @@ pub enum Refusal {
     ShortRun = 14,
     LongRun = 15,
     VenueRecord = 16,
+    Step = 17,
 }
 
 impl Refusal {

@@ -1,14 +1,16 @@
-//! Copy out, depth and watch of both sides, on the same lent records.
+//! Copy out, depth, watch and the permitted price of both sides, on the same lent
+//! records.
 
 use crate::compare::same;
 use crate::counts::Counts;
 use crate::engine;
 use crate::model::{
-    copy_out, depth, watch_tape, OrderRecord, Refusal, Side, Venue, Watch, BUY, PLACES, SHORT,
+    copy_out, depth, permitted_price, watch_tape, OrderRecord, Refusal, Side, Venue, BUY, PLACES,
+    SHORT,
 };
+use crate::odd::{any_price, any_step, any_watch, odd_number};
 use crate::rng::Rng;
 use crate::sessions::Fault;
-use crate::streams::{near_trigger, odd_number};
 use std::ops::Range;
 
 /// The longest run that is lent, longer than depth takes.
@@ -18,9 +20,11 @@ const LONGEST_RUN: usize = 300;
 /// behind them shows.
 const RECORDS: usize = 2 * LONGEST_RUN;
 
-/// Depths and watches at each look, and records that are drawn anew.
+/// Depths, watches and permitted prices at each look, and records that are drawn
+/// anew.
 const DEPTHS: usize = 3;
 const WATCHES: usize = 3;
+const PERMITTED: usize = 3;
 const REDRAWN: usize = 12;
 
 /// The records that runs are lent from, the same nonsense on both sides before
@@ -43,7 +47,7 @@ impl Observer {
     }
 
     /// Compares a copy of the book in a run for about so many orders, and some
-    /// depths and watches. The book is a refusal where the words are no venue
+    /// depths, watches and permitted prices. The book is a refusal where the words are no venue
     /// record in a way that the model's venue can't say.
     pub fn look(
         &mut self,
@@ -69,7 +73,8 @@ impl Observer {
         }
         self.compare_records("after depth")?;
         self.restore(rng, run);
-        (0..WATCHES).try_for_each(|_| compare_watch(rng, counts))
+        (0..WATCHES).try_for_each(|_| compare_watch(rng, counts))?;
+        (0..PERMITTED).try_for_each(|_| compare_permitted(rng, counts))
     }
 
     /// Puts the noise back over a run, and other noise in some places.
@@ -123,16 +128,29 @@ impl Observer {
 }
 
 fn compare_watch(rng: &mut Rng, counts: &mut Counts) -> Result<(), Fault> {
+    let step = any_step(rng);
     let (before, price) = any_watch(rng);
     let (mut engine, mut model) = (before, before);
-    let answer = engine::watch(&mut engine, price);
-    let expected = watch_tape(&mut model, price);
-    counts.watch(expected, model != before);
+    let answer = engine::watch(&mut engine, step, price);
+    let expected = watch_tape(&mut model, step, price);
+    counts.watch(step, price, expected, model != before);
     let expected = engine::answer_of(expected.map(|()| 0));
     same(
-        "watch: before, price, answer, after",
-        (before, price, answer, engine),
-        (before, price, expected, model),
+        "watch: before, step, price, answer, after",
+        (before, step, price, answer, engine),
+        (before, step, price, expected, model),
+    )
+}
+
+fn compare_permitted(rng: &mut Rng, counts: &mut Counts) -> Result<(), Fault> {
+    let (step, bid) = (any_step(rng), any_price(rng));
+    let answer = engine::permitted_price(step, bid);
+    let expected = permitted_price(step, bid);
+    counts.permitted(step, bid, expected);
+    same(
+        "permitted price: step, bid, price",
+        (step, bid, answer),
+        (step, bid, expected.unwrap_or(0)),
     )
 }
 
@@ -170,22 +188,4 @@ fn any_record(rng: &mut Rng) -> OrderRecord {
         clear: rng.word(),
         market: rng.word(),
     }
-}
-
-/// A watch record and a tape price: any, the price around the trigger of the
-/// close, or the close around the one that the price triggers.
-fn any_watch(rng: &mut Rng) -> (Watch, u32) {
-    let odd = odd_number(rng);
-    let (close, price) = match rng.up_to(3) {
-        0 => (rng.word(), odd),
-        1 => (odd, odd_number(rng)),
-        2 => (odd, near_trigger(rng, odd)),
-        _ => {
-            let price = near_trigger(rng, odd);
-            let close = u64::from(price) * 10 / 9;
-            (close as u32 + rng.up_to(2) - 1, price)
-        }
-    };
-    let phase = rng.pick(&[0, 0, 0, 1, 2, 3, odd]);
-    (Watch { close, phase }, price)
 }

@@ -1,4 +1,5 @@
-//! Program `venue` of document 01, and the vectors made by other hands.
+//! Program `venue` of document 01 and `venue-half` of document 02, and the
+//! vectors made by other hands.
 
 use crate::model::{read_number, read_record, RecordCheck, Refusal, Report, Venue, LEAST_BUFFER};
 use std::fs;
@@ -9,20 +10,21 @@ use std::path::{Path, PathBuf};
 /// (A7).
 pub const MOST_INPUT: usize = 65_536;
 
-/// The lines that program `venue` prints for an input.
-pub fn play(input: &[u8]) -> String {
+/// The lines that the program of that step prints for an input: "`venue` opens
+/// at 100; a program `venue-half` opens at 50", with the same input form (F2.3).
+pub fn play(step: u32, input: &[u8]) -> String {
     let input = &input[..input.len().min(MOST_INPUT)];
     let mut lines = String::new();
-    if let Err(refusal) = play_into(input, &mut lines) {
+    if let Err(refusal) = play_into(step, input, &mut lines) {
         put_line(&mut lines, &[0, refusal.number()]);
     }
     lines
 }
 
 /// Plays to the end of the input or to the refusal that ends the program.
-fn play_into(input: &[u8], lines: &mut String) -> Result<(), Refusal> {
+fn play_into(step: u32, input: &[u8], lines: &mut String) -> Result<(), Refusal> {
     let (close, mut at) = read_close(input)?;
-    let mut venue = Venue::open(close)?;
+    let mut venue = Venue::open(step, close)?;
     let mut buffer = vec![0; LEAST_BUFFER];
     while at < input.len() {
         let (event, end) = read_record(input, at)?;
@@ -53,9 +55,9 @@ fn put_line(lines: &mut String, numbers: &[u32]) {
     lines.push('\n');
 }
 
-/// Plays every .bin of a directory and compares with the .txt beside it. Gives
-/// whether all are equal.
-pub fn run_vectors(directory: &Path) -> io::Result<bool> {
+/// Plays every .bin of a directory at a step and compares with the .txt beside
+/// it. Gives whether all are equal.
+pub fn run_vectors(step: u32, directory: &Path) -> io::Result<bool> {
     let mut inputs = Vec::new();
     for entry in fs::read_dir(directory)? {
         let path = entry?.path();
@@ -66,14 +68,14 @@ pub fn run_vectors(directory: &Path) -> io::Result<bool> {
     inputs.sort();
     let mut differing = 0;
     for path in &inputs {
-        differing += u32::from(!vector_agrees(path)?);
+        differing += u32::from(!vector_agrees(step, path)?);
     }
     println!("vectors {} differing {differing}", inputs.len());
     Ok(differing == 0 && !inputs.is_empty())
 }
 
-fn vector_agrees(path: &PathBuf) -> io::Result<bool> {
-    let played = play(&fs::read(path)?);
+fn vector_agrees(step: u32, path: &PathBuf) -> io::Result<bool> {
+    let played = play(step, &fs::read(path)?);
     let expected = fs::read_to_string(path.with_extension("txt"))?;
     if played == expected {
         return Ok(true);
@@ -96,14 +98,26 @@ mod tests {
     use crate::model::{Entry, Event};
     use crate::streams::push_record;
 
+    /// At both steps; the byte counts and the refusals of numbers know no step.
     #[test]
     fn refusals_of_the_close_and_of_a_record() {
-        assert_eq!(play(&[]), "0 9\n");
-        assert_eq!(play(&[0]), "0 3\n");
-        assert_eq!(play(&[0x80, 0]), "0 10\n");
-        assert_eq!(play(&[0x80, 0x80, 0x80, 0x80, 0x10]), "0 12\n");
-        assert_eq!(play(&[1]), "");
-        assert_eq!(play(&[1, 3, 0xDC, 0xC7, 5, 9]), "0 11\n");
+        for step in [50, 100] {
+            assert_eq!(play(step, &[]), "0 9\n");
+            assert_eq!(play(step, &[0]), "0 3\n");
+            assert_eq!(play(step, &[0x80, 0]), "0 10\n");
+            assert_eq!(play(step, &[0x80, 0x80, 0x80, 0x80, 0x10]), "0 12\n");
+            assert_eq!(play(step, &[1]), "");
+            assert_eq!(play(step, &[1, 3, 0xDC, 0xC7, 5, 9]), "0 11\n");
+        }
+    }
+
+    /// 10,050 is legal at the half-cent step only, 10,025 at neither.
+    #[test]
+    fn a_half_cent_close() {
+        assert_eq!(play(50, &[0xC2, 0x4E]), "");
+        assert_eq!(play(100, &[0xC2, 0x4E]), "0 3\n");
+        assert_eq!(play(50, &[0xA9, 0x4E]), "0 3\n");
+        assert_eq!(play(100, &[0xA9, 0x4E]), "0 3\n");
     }
 
     /// The day of "Twelve sums, and one day".
@@ -136,6 +150,6 @@ mod tests {
         }
         let lines = "5\n1 1 1 91100\n1 2 2 91100\n2 2 1 91100 200\n\
                      4 1 90800 3\n4 1 90500 4\n3 1 300 1\n6 2\n";
-        assert_eq!(play(&input), lines);
+        assert_eq!(play(100, &input), lines);
     }
 }

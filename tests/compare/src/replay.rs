@@ -11,7 +11,7 @@ use crate::output::Output;
 use crate::rng::Rng;
 use crate::sessions::Fault;
 use crate::sides::Sides;
-use crate::streams::{Step, MOST_BUFFER};
+use crate::streams::{Call, MOST_BUFFER};
 
 /// Of so many sessions, on average, one is gone through by a mix too.
 const SESSIONS_A_MIX: u32 = 4;
@@ -20,7 +20,7 @@ pub struct Replay {
     start: Sides,
     records: Vec<u8>,
     /// The events of the session as the engine applied them one by one; none
-    /// after a step that got what no event of a play gets.
+    /// after a call that got what no event of a play gets.
     applied: Option<Output>,
     caller: Caller,
     applier: Applier,
@@ -44,7 +44,7 @@ impl Replay {
         self.applied = Some(Output::default());
     }
 
-    /// Takes the record at the front of a step's bytes, and what it got.
+    /// Takes the record at the front of a call's bytes, and what it got.
     pub fn gather(&mut self, bytes: &[u8], applied: &Applied) {
         self.records.extend_from_slice(&bytes[..applied.taken()]);
         match (applied.answer, &mut self.applied) {
@@ -55,7 +55,7 @@ impl Replay {
     }
 
     /// Plays the gathered records in all ways. The sides are those after the
-    /// session's last step.
+    /// session's last event.
     pub fn run(&mut self, sides: &Sides, rng: &mut Rng, counts: &mut Counts) -> Result<(), Fault> {
         self.restart();
         let output = self.play_whole(rng, counts)?;
@@ -160,11 +160,11 @@ impl Replay {
     ) -> Result<Option<usize>, Fault> {
         counts.mixed_apply();
         let enough = rng.between(LEAST_BUFFER as u32, MOST_BUFFER as u32) as usize;
-        let step = Step {
+        let call = Call {
             record: &self.records[at..],
             buffer: rng.pick(&[LEAST_BUFFER - 1, LEAST_BUFFER, enough, enough]),
         };
-        let applied = self.applier.call(&mut self.caller.sides, &step);
+        let applied = self.applier.call(&mut self.caller.sides, &call);
         let applied = applied.map_err(|fault| format!("apply at {at}: {fault}"))?;
         Ok(match applied.answer {
             Err(Refusal::VenueRecord) => None,

@@ -3,7 +3,7 @@
 use crate::counts::Counts;
 use crate::model::Venue;
 use crate::rng::Rng;
-use crate::streams::{Session, Step};
+use crate::streams::{Call, Session};
 
 /// What differs, or a claim that failed.
 pub type Fault = String;
@@ -23,7 +23,7 @@ pub trait Examiner {
     /// The venue as it stands, for which the next event is made.
     fn venue(&self) -> &Venue;
 
-    fn step(&mut self, step: &Step, counts: &mut Counts) -> Result<(), Fault>;
+    fn event(&mut self, call: &Call, counts: &mut Counts) -> Result<(), Fault>;
 
     /// After the last event.
     fn end(&mut self, counts: &mut Counts) -> Result<(), Fault>;
@@ -53,9 +53,9 @@ fn play(seed: u64, examiner: &mut impl Examiner, counts: &mut Counts) -> Result<
     let mut session = Session::new(seed);
     counts.session(&session);
     examiner.start(seed, &session, counts)?;
-    while let Some(step) = session.next(examiner.venue()) {
+    while let Some(call) = session.next(examiner.venue()) {
         counts.events += 1;
-        examiner.step(&step, counts)?;
+        examiner.event(&call, counts)?;
     }
     examiner.end(counts)
 }

@@ -3,10 +3,11 @@
 use crate::compare::same;
 use crate::counts::Counts;
 use crate::engine;
-use crate::model::{Refusal, Venue, PLACES};
+use crate::model::{Refusal, Venue, CENT, PLACES};
+use crate::odd::{any_price, any_step};
 use crate::rng::Rng;
 use crate::sessions::Fault;
-use crate::streams::{odd_number, Session};
+use crate::streams::Session;
 
 /// Room for a broken record of 257 orders, and words behind the venue.
 const WORDS: usize = engine::VENUE_WORDS + 64;
@@ -23,6 +24,9 @@ const ODD_LENGTHS: [usize; 9] = [
     engine::VENUE_WORDS + 1,
     WORDS,
 ];
+
+/// Opens with any step and close, before the one that a session begins with.
+const ODD_OPENS: usize = 6;
 
 #[derive(Clone)]
 pub struct Sides {
@@ -41,7 +45,7 @@ impl Sides {
         let mut rng = Rng::new(0);
         let noise: Vec<u32> = (0..WORDS).map(|_| rng.word()).collect();
         Sides {
-            venue: Venue::fresh(1),
+            venue: Venue::fresh(CENT, 1),
             words: noise.clone(),
             before: noise.clone(),
             noise,
@@ -62,9 +66,12 @@ impl Sides {
         self.is_no_record = false;
         self.lent_words = rng.pick(&[engine::VENUE_WORDS, WORDS]);
         if session.kind.is_from_open() {
-            let lent_words = rng.pick(&ODD_LENGTHS);
-            self.compare_open(lent_words, odd_number(rng), counts)?;
-            self.compare_open(self.lent_words, self.venue.close, counts)?;
+            for _ in 0..ODD_OPENS {
+                let lent_words = rng.pick(&ODD_LENGTHS);
+                self.compare_open(lent_words, any_step(rng), any_price(rng), counts)?;
+            }
+            let (step, close) = (self.venue.step, self.venue.close);
+            self.compare_open(self.lent_words, step, close, counts)?;
             self.compare_venue()
         } else {
             engine::store(&self.venue, &mut self.words);
@@ -93,19 +100,25 @@ impl Sides {
     fn compare_open(
         &mut self,
         lent_words: usize,
+        step: u32,
         close: u32,
         counts: &mut Counts,
     ) -> Result<(), Fault> {
         self.before.copy_from_slice(&self.words);
-        let answer = engine::open(&mut self.words[..lent_words], close);
+        let answer = engine::open(&mut self.words[..lent_words], step, close);
         let model = if lent_words < engine::VENUE_WORDS {
             Err(Refusal::VenueRecord)
         } else {
-            Venue::open(close)
+            Venue::open(step, close)
         };
         let expected = model.as_ref().map(|_| 0).map_err(|&refusal| refusal);
-        counts.open(expected);
-        same("answer of open", answer, engine::answer_of(expected))?;
+        counts.open(step, close, expected);
+        let expected = engine::answer_of(expected);
+        same(
+            "open: step, close, words, answer",
+            (step, close, lent_words, answer),
+            (step, close, lent_words, expected),
+        )?;
         if let Ok(venue) = &model {
             self.before[..engine::VENUE_WORDS].copy_from_slice(&engine::fresh_words(venue));
         }

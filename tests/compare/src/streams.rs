@@ -1,55 +1,21 @@
 //! Generated streams: sound trading around the bid, nonsense, damaged bytes,
-//! and events on made-up venue records. Each follows from its seed.
+//! and events on made-up venue records, at both steps. Each follows from its
+//! seed.
 
+use crate::ladder::Ladder;
 use crate::made_up::{made_up, sink_shorts, spoil_record};
 use crate::model::{
-    read_record, write_number, write_record, Entry, Event, RecordCheck, Venue, DOLLAR, HIGHEST,
-    HIGHEST_BID, LEAST_BUFFER, LONGEST_NUMBER, LOWEST, MOST_EVENTS, MOST_SHARES, SHORT, STEP,
+    read_record, write_number, write_record, Entry, Event, RecordCheck, Venue, CENT, DOLLAR,
+    HALF_CENT, LEAST_BUFFER, LONGEST_NUMBER, LOWEST, MOST_SHARES, SHORT,
 };
+use crate::odd::{near_miss, odd_number};
 use crate::rng::Rng;
 
-/// Legal prices counted from 1 up; rung 0 is no bid.
-const RUNGS: u32 = DOLLAR + (HIGHEST - DOLLAR) / STEP;
-
-pub fn price_of(rung: u32) -> u32 {
-    if rung < DOLLAR {
-        rung
-    } else {
-        DOLLAR + (rung - DOLLAR) * STEP
-    }
-}
-
-/// The rung of the highest legal price that isn't above this one.
-fn rung_of(price: u32) -> u32 {
-    if price < DOLLAR {
-        price
-    } else {
-        DOLLAR + (price - DOLLAR) / STEP
-    }
-}
-
-/// A legal price at most so many rungs away.
-pub fn near(rng: &mut Rng, rung: u32, reach: u32) -> u32 {
-    let least = rung.saturating_sub(reach);
-    let drawn = rng.between(least, rung + reach);
-    price_of(drawn.clamp(1, RUNGS))
-}
-
-/// A legal price around the highest that triggers the restriction.
-pub fn near_trigger(rng: &mut Rng, close: u32) -> u32 {
-    let trigger = u64::from(close) * 9 / 10;
-    near(rng, rung_of(trigger as u32), 1)
-}
-
-/// A bid at most so many rungs away.
-fn bid_near(rng: &mut Rng, rung: u32, reach: u32) -> u32 {
-    near(rng, rung, reach).min(HIGHEST_BID)
-}
-
-/// Where a session trades, how far from there, and how often in a hundred
-/// events something other than an entry comes; how many of a hundred entries are
-/// market orders, and how many of twenty bids are none or the lowest.
+/// At which step and where a session trades, how far from there, and how often
+/// in a hundred events something other than an entry comes; how many of a hundred
+/// entries are market orders, and how many of twenty bids are none or the lowest.
 pub struct Market {
+    pub ladder: Ladder,
     pub centre: u32,
     pub reach: u32,
     pub marks: &'static [u32],
@@ -69,9 +35,13 @@ const OTHERS: &[u32] = &[0, 0, 0, 1, 1, 2, 3];
 
 impl Market {
     fn random(rng: &mut Rng) -> Self {
-        let anywhere = rng.between(1, RUNGS);
-        let centres = [910, 10_810, DOLLAR, DOLLAR + 1, 12, RUNGS - 4, anywhere];
+        let step = rng.pick(&[HALF_CENT, CENT]);
+        let ladder = Ladder { step };
+        let (dollars, top) = (ladder.rung_of(91_000), ladder.top());
+        let anywhere = rng.between(1, top);
+        let centres = [910, dollars, DOLLAR, DOLLAR + 1, 12, top - 4, anywhere];
         Market {
+            ladder,
             centre: rng.pick(&centres),
             reach: rng.pick(&[2, 5, 5, 20, 300]),
             cancels: rng.pick(&[1, 8, 20]),
@@ -85,8 +55,30 @@ impl Market {
         }
     }
 
+    /// The market of the benchmark.
+    fn steady(ladder: Ladder) -> Self {
+        Market {
+            ladder,
+            centre: ladder.rung_of(91_000),
+            reach: 12,
+            cancels: 0,
+            bids: 10,
+            tapes: 3,
+            quiet_days: u32::MAX,
+            marks: MIXED,
+            market_orders: 0,
+            no_bids: 1,
+            lowest_bids: 0,
+        }
+    }
+
+    /// A fresh venue.
+    fn open(&self, rng: &mut Rng) -> Venue {
+        Venue::fresh(self.ladder.step, self.close(rng))
+    }
+
     pub fn close(&self, rng: &mut Rng) -> u32 {
-        near(rng, self.centre, 2 * self.reach)
+        self.ladder.near(rng, self.centre, 2 * self.reach)
     }
 
     /// An event that makes sense for the venue as it stands.
@@ -120,27 +112,28 @@ impl Market {
         } else if drawn < away {
             LOWEST
         } else if drawn < away + 5 {
-            bid_near(rng, self.centre, self.reach)
+            self.ladder.bid_near(rng, self.centre, self.reach)
         } else if present == 0 {
-            bid_near(rng, self.centre, 2)
+            self.ladder.bid_near(rng, self.centre, 2)
         } else {
-            bid_near(rng, rung_of(present), 3)
+            let rung = self.ladder.rung_of(present);
+            self.ladder.bid_near(rng, rung, 3)
         }
     }
 
     /// A tape price around the trigger, or around the centre.
     fn tape(&self, rng: &mut Rng, venue: &Venue) -> u32 {
         if rng.one_in(3) {
-            near_trigger(rng, venue.close)
+            self.ladder.near_trigger(rng, venue.close)
         } else {
-            near(rng, self.centre, self.reach)
+            self.ladder.near(rng, self.centre, self.reach)
         }
     }
 
     fn entry(&self, rng: &mut Rng, venue: &Venue) -> Entry {
         let around = match venue.bid {
             0 => self.centre,
-            bid => rung_of(bid),
+            bid => self.ladder.rung_of(bid),
         };
         let mark = rng.pick(self.marks);
         let few = rng.between(1, 9);
@@ -163,7 +156,7 @@ impl Market {
     /// The price of an entry: where there are market orders, at times 0, and at
     /// times 1, which is the limit of a market short.
     fn price(&self, rng: &mut Rng, around: u32) -> u32 {
-        let price = near(rng, around, self.reach);
+        let price = self.ladder.near(rng, around, self.reach);
         if self.market_orders == 0 {
             return price;
         }
@@ -175,45 +168,11 @@ impl Market {
     }
 }
 
-/// A number at or over some border, or any.
-pub fn odd_number(rng: &mut Rng) -> u32 {
-    let any = rng.word();
-    let borders = [
-        0,
-        1,
-        2,
-        3,
-        4,
-        5,
-        255,
-        256,
-        257,
-        DOLLAR - 1,
-        DOLLAR,
-        DOLLAR + 1,
-        DOLLAR + STEP - 1,
-        MOST_SHARES,
-        MOST_SHARES + 1,
-        MOST_EVENTS,
-        MOST_EVENTS + 1,
-        HIGHEST_BID,
-        HIGHEST_BID + 1,
-        HIGHEST,
-        HIGHEST + 1,
-        HIGHEST + STEP,
-        u32::MAX - 1,
-        u32::MAX,
-        any,
-        any % HIGHEST,
-        any % DOLLAR,
-    ];
-    rng.pick(&borders)
-}
-
-/// A sound event with one field changed to something odd, or all fields odd.
+/// A sound event with one field changed to something odd, its price to a number
+/// next to it, or all fields odd.
 fn nonsense(rng: &mut Rng, sound: Event, venue: &Venue) -> Event {
     let odd = odd_number(rng);
-    match (sound, rng.up_to(5)) {
+    match (sound, rng.up_to(7)) {
         (_, 0) => Event::Cancel { id: odd },
         (_, 1) => rng.pick(&[
             Event::Bid { price: odd },
@@ -229,8 +188,29 @@ fn nonsense(rng: &mut Rng, sound: Event, venue: &Venue) -> Event {
             life: odd_number(rng),
             slide: odd,
         }),
+        (sound, 6..) => miss(rng, sound),
         (Event::Entry(entry), _) => Event::Entry(spoil_entry(rng, entry, odd, venue)),
         (sound, _) => sound,
+    }
+}
+
+/// An event with its price moved a little; a cancel has none.
+fn miss(rng: &mut Rng, event: Event) -> Event {
+    match event {
+        Event::Entry(entry) => {
+            let price = near_miss(rng, entry.price);
+            Event::Entry(Entry { price, ..entry })
+        }
+        Event::Cancel { .. } => event,
+        Event::Bid { price } => Event::Bid {
+            price: near_miss(rng, price),
+        },
+        Event::Tape { price } => Event::Tape {
+            price: near_miss(rng, price),
+        },
+        Event::DayEnd { price } => Event::DayEnd {
+            price: near_miss(rng, price),
+        },
     }
 }
 
@@ -325,7 +305,7 @@ impl Kind {
 
 /// One event to apply: the bytes to read a record from (a damaged stream gives
 /// all its rest) and the length of the report buffer to lend.
-pub struct Step<'a> {
+pub struct Call<'a> {
     pub record: &'a [u8],
     pub buffer: usize,
 }
@@ -341,7 +321,7 @@ pub struct Session {
     at: usize,
 }
 
-/// The longest buffer that a step lends, longer than any event may need.
+/// The longest buffer that a call lends, longer than any event may need.
 pub const MOST_BUFFER: usize = LEAST_BUFFER + 4_096;
 
 impl Session {
@@ -357,10 +337,10 @@ impl Session {
         };
         let long = rng.pick(&[50, 400, 1_500]);
         let (start, left, bytes) = match kind {
-            Kind::Sound => (Venue::fresh(market.close(&mut rng)), long, Vec::new()),
-            Kind::Nonsense => (Venue::fresh(market.close(&mut rng)), long / 2, Vec::new()),
+            Kind::Sound => (market.open(&mut rng), long, Vec::new()),
+            Kind::Nonsense => (market.open(&mut rng), long / 2, Vec::new()),
             Kind::Damaged => {
-                let venue = Venue::fresh(market.close(&mut rng));
+                let venue = market.open(&mut rng);
                 let bytes = damaged_stream(&mut rng, &market, venue.clone());
                 (venue, u32::MAX, bytes)
             }
@@ -388,8 +368,8 @@ impl Session {
         }
     }
 
-    /// The next step for the venue as it stands.
-    pub fn next(&mut self, venue: &Venue) -> Option<Step<'_>> {
+    /// The next call for the venue as it stands.
+    pub fn next(&mut self, venue: &Venue) -> Option<Call<'_>> {
         if self.left == 0 || (self.kind == Kind::Damaged && self.at >= self.bytes.len()) {
             return None;
         }
@@ -399,12 +379,12 @@ impl Session {
             let at = self.at;
             self.at = read_record(&self.bytes, at).map_or(at + 1, |(_, end)| end);
             let record = &self.bytes[at..];
-            return Some(Step { record, buffer });
+            return Some(Call { record, buffer });
         }
         let event = self.event(venue);
         self.bytes.clear();
         push_record(&mut self.bytes, &event);
-        Some(Step {
+        Some(Call {
             record: &self.bytes,
             buffer,
         })
@@ -485,24 +465,13 @@ impl Trace {
     }
 }
 
-/// A sound stream that keeps about so many orders resting, with the restriction
-/// on, and holds so many events. It has no market orders, so that its figures
-/// can be held against those from before there were any.
-pub fn trace(seed: u64, resting: usize, events: usize) -> Trace {
+/// A sound stream at a step that keeps about so many orders resting, with the
+/// restriction on, and holds so many events. It has no market orders, so that its
+/// figures can be held against those from before there were any.
+pub fn trace(step: u32, seed: u64, resting: usize, events: usize) -> Trace {
     let mut rng = Rng::new(seed);
-    let market = Market {
-        centre: rung_of(91_000),
-        reach: 12,
-        cancels: 0,
-        bids: 10,
-        tapes: 3,
-        quiet_days: u32::MAX,
-        marks: MIXED,
-        market_orders: 0,
-        no_bids: 1,
-        lowest_bids: 0,
-    };
-    let mut venue = Venue::fresh(100_000);
+    let market = Market::steady(Ladder { step });
+    let mut venue = Venue::fresh(step, 100_000);
     let mut buffer = vec![0; LEAST_BUFFER];
     let mut play = |venue: &mut Venue, event: &Event| {
         let answer = venue.apply(event, &mut buffer, RecordCheck::Skipped);
@@ -559,7 +528,7 @@ fn quiet_entry(rng: &mut Rng, market: &Market, venue: &Venue) -> Entry {
     };
     Entry {
         id: venue.last_id + 1,
-        price: price_of(rung),
+        price: market.ladder.price_of(rung),
         shares: rng.between(1, 9) * 100,
         life: 0,
         ..entry

@@ -44,16 +44,17 @@ pub struct Order {
 }
 
 impl Order {
-    /// The conditions of refusal 16 on one order by itself.
-    pub(super) fn is_sound(&self) -> bool {
-        is_legal(self.price)
-            && is_legal(self.limit)
+    /// The conditions of refusal 16 on one order by itself, in a venue of that
+    /// step.
+    pub(super) fn is_sound(&self, step: u32) -> bool {
+        is_legal(step, self.price)
+            && is_legal(step, self.limit)
             && (1..=MOST_SHARES).contains(&self.shares)
             && self.mark <= HIGHEST_MARK
             && self.show <= DISPLAYED
             && self.life == DAY
             && is_slide(self.slide, self.mark)
-            && is_bid(self.entry_bid)
+            && is_bid(step, self.entry_bid)
             && (!self.market || self.may_be_market())
     }
 
@@ -241,7 +242,7 @@ mod tests {
             last_stamp: 2,
             accepted: 2,
             orders: vec![order(1, BUY, 1), order(2, BUY, 0)],
-            ..Venue::fresh(100_000)
+            ..Venue::fresh(100, 100_000)
         };
         let noise = OrderRecord {
             clear: 9,
@@ -264,7 +265,7 @@ mod tests {
             last_stamp: 2,
             accepted: 2,
             orders: vec![market_short(), order(2, SHORT, 1)],
-            ..Venue::fresh(100_000)
+            ..Venue::fresh(100, 100_000)
         };
         let mut run = [record(9, 9, 9); 2];
         assert_eq!(copy_out(&venue, &mut run), Ok(2));
@@ -287,19 +288,19 @@ mod tests {
                         show,
                         ..short
                     };
-                    assert!(sound.is_sound(), "{sound:?}");
+                    assert!(sound.is_sound(100), "{sound:?}");
                 }
             }
         }
         let marks = [BUY, 1, 3].map(|mark| Order { mark, ..short });
         let limits = [2, 100, 90_000, HIGHEST].map(|limit| Order { limit, ..short });
         for order in marks.into_iter().chain(limits) {
-            assert!(!order.is_sound(), "{order:?}");
+            assert!(!order.is_sound(100), "{order:?}");
             let plain = Order {
                 market: false,
                 ..order
             };
-            assert!(plain.is_sound(), "{plain:?}");
+            assert!(plain.is_sound(100), "{plain:?}");
         }
     }
 

@@ -142,7 +142,7 @@ mod tests {
     impl Lent {
         fn new(reports: usize, ends: usize) -> Self {
             Lent {
-                venue: Venue::fresh(100_000),
+                venue: Venue::fresh(100, 100_000),
                 reports: vec![0xA5; reports],
                 ends: vec![99; ends],
                 progress: NOISE,
@@ -264,7 +264,7 @@ mod tests {
                 ..Progress::default()
             };
             assert_eq!(lent.progress, progress);
-            assert_eq!(lent.venue, Venue::fresh(100_000));
+            assert_eq!(lent.venue, Venue::fresh(100, 100_000));
             assert!(lent.reports.iter().all(|&byte| byte == 0xA5));
             assert_eq!(lent.ends, [99; 12]);
         }

@@ -3,38 +3,51 @@
 use super::Refusal;
 
 /// "A price is a 32-bit whole number of ten-thousandths of a dollar, legal
-/// from 1 to 100,000,000; from 10,000 up it is a multiple of 100."
+/// from 1 to 100,000,000".
 pub const LOWEST: u32 = 1;
 pub const HIGHEST: u32 = 100_000_000;
 pub const DOLLAR: u32 = 10_000;
-pub const STEP: u32 = 100;
-pub const HIGHEST_BID: u32 = HIGHEST - STEP;
 
-pub fn is_legal(price: u32) -> bool {
-    (LOWEST..=HIGHEST).contains(&price) && (price < DOLLAR || price.is_multiple_of(STEP))
+/// "Opening takes a step, 50 or 100, for prices from 10,000 up."
+pub const HALF_CENT: u32 = 50;
+pub const CENT: u32 = 100;
+
+/// "Any other step is refused with 17".
+pub fn is_step(step: u32) -> bool {
+    step == HALF_CENT || step == CENT
 }
 
-/// "A bid is 0 (no bid) or a legal price up to 99,999,900."
-pub fn is_bid(bid: u32) -> bool {
-    bid == 0 || (is_legal(bid) && bid <= HIGHEST_BID)
+/// "There legal prices are its multiples [...]; below, both stay as they were."
+/// Said of a step only, as are the next two.
+pub fn is_legal(step: u32, price: u32) -> bool {
+    (LOWEST..=HIGHEST).contains(&price) && (price < DOLLAR || price.is_multiple_of(step))
 }
 
-/// "Permitted price of bid b: 1 if b = 0; b + 1 if 1 ≤ b < 10,000; otherwise
-/// b + 100." Said of a bid only.
-pub(super) fn permitted(bid: u32) -> u32 {
+/// "A bid is 0 (no bid) or a legal price", and "The highest bid is 100,000,000
+/// less the step."
+pub fn is_bid(step: u32, bid: u32) -> bool {
+    bid == 0 || (is_legal(step, bid) && bid <= HIGHEST - step)
+}
+
+/// "Permitted price of bid b: 1 if b = 0; b + 1 if 1 ≤ b < 10,000", and from
+/// there up "the permitted price is bid + step". Said of a bid only.
+pub(super) fn permitted(step: u32, bid: u32) -> u32 {
     match bid {
         0 => 1,
         1..DOLLAR => bid + 1,
-        _ => bid + STEP,
+        _ => bid + step,
     }
 }
 
-/// The permitted price for hosts: 3 for what isn't a bid (B1).
-pub fn permitted_price(bid: u32) -> Result<u32, Refusal> {
-    if is_bid(bid) {
-        Ok(permitted(bid))
-    } else {
+/// The permitted price for hosts: 17 for what isn't a step, "before the close or
+/// price is looked at", then 3 for what isn't a bid (B1).
+pub fn permitted_price(step: u32, bid: u32) -> Result<u32, Refusal> {
+    if !is_step(step) {
+        Err(Refusal::Step)
+    } else if !is_bid(step, bid) {
         Err(Refusal::Price)
+    } else {
+        Ok(permitted(step, bid))
     }
 }
 
@@ -68,9 +81,12 @@ pub struct Watch {
 
 /// "a tape price updates the host's own watch record (close, phase) by the
 /// phase-0 rule, for any close; 3 if the price isn't legal." Any other phase is
-/// left alone (B4).
-pub fn watch_tape(watch: &mut Watch, price: u32) -> Result<(), Refusal> {
-    if !is_legal(price) {
+/// left alone (B4). 17 comes before 3, and the close isn't judged at any step.
+pub fn watch_tape(watch: &mut Watch, step: u32, price: u32) -> Result<(), Refusal> {
+    if !is_step(step) {
+        return Err(Refusal::Step);
+    }
+    if !is_legal(step, price) {
         return Err(Refusal::Price);
     }
     watch.phase = phase_after_tape(watch.phase, watch.close, price);
@@ -81,18 +97,127 @@ pub fn watch_tape(watch: &mut Watch, price: u32) -> Result<(), Refusal> {
 mod tests {
     use super::*;
 
+    /// Numbers that aren't steps: near to one, between the two, twice one.
+    const BAD_STEPS: [u32; 10] = [0, 1, 49, 51, 75, 99, 101, 150, 200, u32::MAX];
+
     /// Eight of "Twelve sums"; the four byte counts are in `form`.
     #[test]
     fn sums() {
-        assert_eq!(permitted_price(9_998), Ok(9_999));
-        assert_eq!(permitted_price(9_999), Ok(10_000));
-        assert_eq!(permitted_price(10_000), Ok(10_100));
-        assert_eq!(permitted_price(99_999_900), Ok(100_000_000));
-        assert_eq!(permitted_price(100_000_000), Err(Refusal::Price));
+        assert_eq!(permitted_price(100, 9_998), Ok(9_999));
+        assert_eq!(permitted_price(100, 9_999), Ok(10_000));
+        assert_eq!(permitted_price(100, 10_000), Ok(10_100));
+        assert_eq!(permitted_price(100, 99_999_900), Ok(100_000_000));
+        assert_eq!(permitted_price(100, 100_000_000), Err(Refusal::Price));
         assert_eq!(phase_after_tape(0, 100_000, 90_000), 1);
         assert_eq!(phase_after_tape(0, 100_000, 90_100), 0);
         assert_eq!(phase_after_tape(0, 9_999, 8_999), 1);
         assert_eq!(phase_after_tape(0, 9_999, 9_000), 0);
+    }
+
+    /// The same sums for half-cent stocks: "below, both stay as they were", and
+    /// 90,050 is the lowest price that doesn't trigger at close 100,000.
+    #[test]
+    fn sums_at_the_half_cent_step() {
+        assert_eq!(permitted_price(50, 0), Ok(1));
+        assert_eq!(permitted_price(50, 1), Ok(2));
+        assert_eq!(permitted_price(50, 9_998), Ok(9_999));
+        assert_eq!(permitted_price(50, 9_999), Ok(10_000));
+        assert_eq!(permitted_price(50, 10_000), Ok(10_050));
+        assert_eq!(permitted_price(50, 10_050), Ok(10_100));
+        assert_eq!(permitted_price(50, 99_999_900), Ok(99_999_950));
+        assert_eq!(permitted_price(50, 99_999_950), Ok(100_000_000));
+        assert_eq!(permitted_price(50, 100_000_000), Err(Refusal::Price));
+        assert_eq!(permitted_price(100, 99_999_950), Err(Refusal::Price));
+        assert_eq!(permitted_price(100, 10_050), Err(Refusal::Price));
+        assert_eq!(phase_after_tape(0, 100_000, 90_050), 0);
+        assert_eq!(phase_after_tape(0, 100_050, 90_000), 1);
+        assert_eq!(phase_after_tape(0, 100_050, 90_050), 0);
+    }
+
+    /// A number, whether it is a legal price, and whether a bid.
+    type Judged = (u32, bool, bool);
+
+    fn assert_judged(step: u32, numbers: &[Judged]) {
+        for &(number, legal, bid) in numbers {
+            let judged = (is_legal(step, number), is_bid(step, number));
+            assert_eq!(judged, (legal, bid), "{number} at step {step}");
+        }
+    }
+
+    #[test]
+    fn legal_prices_and_bids_at_both_steps() {
+        for step in [50, 100] {
+            assert_judged(
+                step,
+                &[
+                    (0, false, true),
+                    (1, true, true),
+                    (49, true, true),
+                    (51, true, true),
+                    (9_951, true, true),
+                    (9_999, true, true),
+                    (10_000, true, true),
+                    (10_001, false, false),
+                    (10_025, false, false),
+                    (10_049, false, false),
+                    (10_051, false, false),
+                    (10_099, false, false),
+                    (10_100, true, true),
+                    (99_999_900, true, true),
+                    (99_999_949, false, false),
+                    (99_999_999, false, false),
+                    (100_000_000, true, false),
+                    (100_000_050, false, false),
+                    (100_000_100, false, false),
+                    (u32::MAX, false, false),
+                ],
+            );
+        }
+        assert_judged(50, &[(10_050, true, true), (99_999_950, true, true)]);
+        assert_judged(100, &[(10_050, false, false), (99_999_950, false, false)]);
+    }
+
+    /// "Any other step is refused with 17, before the close or price is looked
+    /// at": beside a bid, beside what is a bid at no step, and with the highest.
+    #[test]
+    fn the_permitted_price_refuses_other_steps() {
+        for step in BAD_STEPS {
+            for bid in [0, 9_999, 10_000, 10_001, 10_050, 100_000_000, u32::MAX] {
+                assert_eq!(permitted_price(step, bid), Err(Refusal::Step));
+            }
+        }
+    }
+
+    #[test]
+    fn a_watch_refuses_other_steps_and_stays() {
+        for step in BAD_STEPS {
+            for price in [0, 1, 10_000, 10_001, 10_050, 100_000_001] {
+                let mut watch = WATCH;
+                let answer = watch_tape(&mut watch, step, price);
+                assert_eq!((answer, watch), (Err(Refusal::Step), WATCH));
+            }
+        }
+    }
+
+    const WATCH: Watch = Watch {
+        close: 100_000,
+        phase: 0,
+    };
+
+    #[test]
+    fn a_watch_takes_half_cent_prices_at_the_half_cent_step_only() {
+        let cases = [
+            (50, 90_050, Ok(()), 0),
+            (50, 89_950, Ok(()), 1),
+            (50, 89_975, Err(Refusal::Price), 0),
+            (100, 89_950, Err(Refusal::Price), 0),
+            (100, 89_900, Ok(()), 1),
+        ];
+        for (step, price, answer, phase) in cases {
+            let mut watch = WATCH;
+            assert_eq!(watch_tape(&mut watch, step, price), answer);
+            assert_eq!(watch, Watch { phase, ..WATCH });
+        }
     }
 
     #[test]
@@ -105,14 +230,17 @@ mod tests {
             ((100_000, 1), 1, Ok(()), 1),
             ((100_000, 2), 1, Ok(()), 2),
             ((100_000, 7), 1, Ok(()), 7),
+            ((100_025, 0), 90_000, Ok(()), 1),
             ((100_000, 0), 0, Err(Refusal::Price), 0),
             ((100_000, 0), 10_001, Err(Refusal::Price), 0),
         ];
         for ((close, phase), price, answer, after) in cases {
-            let mut watch = Watch { close, phase };
-            assert_eq!(watch_tape(&mut watch, price), answer);
-            let phase = after;
-            assert_eq!(watch, Watch { close, phase });
+            for step in [50, 100] {
+                let mut watch = Watch { close, phase };
+                assert_eq!(watch_tape(&mut watch, step, price), answer);
+                let phase = after;
+                assert_eq!(watch, Watch { close, phase });
+            }
         }
     }
 }

@@ -7,7 +7,7 @@ use super::book::{
 };
 use super::form::{Entry, Event, Report, ReportWriter};
 use super::prices::{
-    is_bid, is_legal, permitted, phase_after_day_end, phase_after_tape, HIGHEST, LOWEST,
+    is_bid, is_legal, is_step, permitted, phase_after_day_end, phase_after_tape, HIGHEST, LOWEST,
 };
 use super::Refusal;
 
@@ -37,6 +37,7 @@ pub enum RecordCheck {
 /// The venue record; orders in rising id.
 #[derive(Clone, Debug, PartialEq, Eq)]
 pub struct Venue {
+    pub step: u32,
     pub close: u32,
     pub phase: u32,
     pub bid: u32,
@@ -56,15 +57,19 @@ enum Turn {
 
 impl Venue {
     /// "Open takes a close: 3 if it isn't legal; no venue is made. Fresh: phase
-    /// 0, bid 0, no orders, last id, last stamp and accepted events 0."
-    pub fn open(close: u32) -> Result<Venue, Refusal> {
-        refuse_unless(is_legal(close), Refusal::Price)?;
-        Ok(Venue::fresh(close))
+    /// 0, bid 0, no orders, last id, last stamp and accepted events 0." And
+    /// "Opening takes a step", "Any other step is refused with 17, before the
+    /// close or price is looked at".
+    pub fn open(step: u32, close: u32) -> Result<Venue, Refusal> {
+        refuse_unless(is_step(step), Refusal::Step)?;
+        refuse_unless(is_legal(step, close), Refusal::Price)?;
+        Ok(Venue::fresh(step, close))
     }
 
-    /// A fresh venue without looking at the close.
-    pub fn fresh(close: u32) -> Venue {
+    /// A fresh venue without looking at the step and the close.
+    pub fn fresh(step: u32, close: u32) -> Venue {
         Venue {
+            step,
             close,
             phase: 0,
             bid: 0,
@@ -75,16 +80,19 @@ impl Venue {
         }
     }
 
-    /// Whether the venue record keeps every condition of refusal 16.
+    /// Whether the venue record keeps every condition of refusal 16. Another step
+    /// "in a venue record [...] is a broken condition", and prices and bids are
+    /// judged by the venue's own (F2.1).
     pub fn is_sound(&self) -> bool {
-        self.orders.len() <= PLACES
-            && is_legal(self.close)
+        is_step(self.step)
+            && self.orders.len() <= PLACES
+            && is_legal(self.step, self.close)
             && self.phase <= 2
-            && is_bid(self.bid)
+            && is_bid(self.step, self.bid)
             && self.accepted <= MOST_EVENTS
             && self.last_stamp <= STAMPS_AN_EVENT * self.accepted
             && self.ids_rise()
-            && self.orders.iter().all(Order::is_sound)
+            && self.orders.iter().all(|order| order.is_sound(self.step))
             && self.stamps_differ()
     }
 
@@ -138,17 +146,17 @@ impl Venue {
                 self.cancel(at, ASKED_FOR, &mut reports);
             }
             Event::Bid { price } => {
-                refuse_unless(is_bid(price), Refusal::Price)?;
+                refuse_unless(is_bid(self.step, price), Refusal::Price)?;
                 self.bid = price;
                 self.pass(&mut reports);
             }
             Event::Tape { price } => {
-                refuse_unless(is_legal(price), Refusal::Price)?;
+                refuse_unless(is_legal(self.step, price), Refusal::Price)?;
                 self.print(price, &mut reports);
                 self.pass(&mut reports);
             }
             Event::DayEnd { price } => {
-                refuse_unless(is_legal(price), Refusal::Price)?;
+                refuse_unless(is_legal(self.step, price), Refusal::Price)?;
                 self.end_day(price, &mut reports);
             }
         }
@@ -175,7 +183,7 @@ impl Venue {
             && entry.life <= IMMEDIATE
             && is_slide(entry.slide, entry.mark);
         let shares = (1..=MOST_SHARES).contains(&entry.shares);
-        let price = entry.is_market() || is_legal(entry.price);
+        let price = entry.is_market() || is_legal(self.step, entry.price);
         refuse_unless(price, Refusal::Price)?;
         refuse_unless(shares, Refusal::Shares)?;
         refuse_unless(codes, Refusal::Code)?;
@@ -190,7 +198,7 @@ impl Venue {
         let limit = limit_of(entry);
         let mut price = limit;
         if self.restricts(entry.mark) {
-            price = price.max(permitted(self.bid));
+            price = price.max(permitted(self.step, self.bid));
         }
         let mut order = Order {
             id: entry.id,
@@ -351,7 +359,7 @@ impl Venue {
         if order.market && self.bid == 0 {
             return Turn::Stay;
         }
-        let permitted = permitted(self.bid);
+        let permitted = permitted(self.step, self.bid);
         if order.price <= self.bid && (order.show != DISPLAYED || !order.clear) {
             return match order.slide {
                 OPT_OUT => Turn::Cancel,
@@ -449,7 +457,7 @@ mod tests {
         let mut venue = Venue {
             phase: 1,
             bid,
-            ..Venue::fresh(100_000)
+            ..Venue::fresh(100, 100_000)
         };
         let entry = Entry {
             id: 7,

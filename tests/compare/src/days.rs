@@ -1,0 +1,51 @@
+//! Days in words, with the lines that the program prints for each event.
+
+use crate::model::{write_number, LONGEST_NUMBER};
+use crate::program::play;
+
+/// An event, its kind as a word, and its lines.
+pub type Played = (&'static str, &'static [&'static str]);
+
+/// An input that begins with this close.
+pub fn after_close(close: u64) -> Vec<u8> {
+    let mut input = Vec::new();
+    push_number(&mut input, close);
+    input
+}
+
+pub fn push_event(input: &mut Vec<u8>, event: &str) {
+    for word in event.split(' ') {
+        let number = match word {
+            "entry" => 1,
+            "cancel" => 2,
+            "bid" => 3,
+            "tape" => 4,
+            "end" => 5,
+            number => number.parse().expect("a number"),
+        };
+        push_number(input, number);
+    }
+}
+
+fn push_number(input: &mut Vec<u8>, number: u64) {
+    let mut bytes = [0; LONGEST_NUMBER];
+    let end = write_number(&mut bytes, 0, number);
+    input.extend_from_slice(&bytes[..end]);
+}
+
+/// Plays the day at a step up to each of its events, after a close of 100,000.
+pub fn assert_day(step: u32, day: &[Played]) {
+    let mut input = after_close(100_000);
+    let mut expected = String::new();
+    for (event, lines) in day {
+        push_event(&mut input, event);
+        for line in *lines {
+            expected.push_str(line);
+            expected.push('\n');
+        }
+        assert_eq!(play(step, &input), expected, "{event} at step {step}");
+    }
+}
+
+/// The restriction is on, and the bid is 91,000.
+pub const ON: [Played; 2] = [("bid 91000", &[]), ("tape 90000", &["5"])];
