@@ -19,7 +19,12 @@ extern "C" {
 #define VENUE_WORDS 3600
 
 /* The number of the layout of these words. venue_open writes it, and words that were stored under another layout are refused with 16. */
-#define VENUE_LAYOUT 2
+#define VENUE_LAYOUT 3
+
+/* The steps that a venue may be opened with, in ten-thousandths of a dollar. Legal prices are the whole numbers from 1 to 100,000,000, from 10,000 up
+   the multiples of the step alone. A bid is 0 (no bid) or a legal price up to 100,000,000 less the step. */
+#define VENUE_CENT 100
+#define VENUE_HALF_CENT 50
 
 /* The least length of a report buffer: the reports of an event always fit it. */
 #define VENUE_REPORT_BYTES 16384
@@ -39,11 +44,12 @@ static inline uint32_t venue_count(uint32_t answer)
     return answer % 65536;
 }
 
-/* Makes the first VENUE_WORDS words a fresh venue after a day with this close: restriction off, no bid, no orders. Whatever stood there is gone.
-   The answer is 0, or a refusal, which changes no word:
+/* Makes the first VENUE_WORDS words a fresh venue with this step, after a day with this close: restriction off, no bid, no orders. Whatever stood there
+   is gone. The step stays the venue's: every later price, bid and close is judged by it. The answer is 0, or a refusal, which changes no word:
    16  the run has fewer than VENUE_WORDS words
-    3  the close isn't a legal price: 1 to 100,000,000 ten-thousandths of a dollar, from 10,000 up a multiple of 100 */
-uint32_t venue_open(uint32_t *words, size_t words_length, uint32_t close);
+   17  the step is neither VENUE_CENT nor VENUE_HALF_CENT; the close isn't looked at
+    3  the close isn't a legal price at this step */
+uint32_t venue_open(uint32_t *words, size_t words_length, uint32_t step, uint32_t close);
 
 /* Applies the event whose record stands at the front of the bytes; bytes behind it don't matter. docs/EVENTS.md has the form of event records and
    of reports. The event's reports stand at the front of the buffer afterwards, as many bytes as the count of the answer says; the bytes
@@ -57,7 +63,7 @@ uint32_t venue_open(uint32_t *words, size_t words_length, uint32_t close);
        venue_play, whatever it answers
     1  the buffer has fewer than VENUE_REPORT_BYTES bytes
     2  the venue has accepted 16,777,215 events, the most it takes
-    3  a price, a bid or a close that isn't legal; the price 0 of an entry means market
+    3  a price, a bid or a close that isn't legal at the venue's step; the price 0 of an entry means market
     4  shares not 1 to 1,000,000
     5  mark, show, life or slide out of range, or a slide with a mark other than short
     6  the id isn't above that of the last accepted entry
@@ -99,9 +105,9 @@ uint32_t venue_play(uint32_t *words, size_t words_length, const uint8_t *records
    0 on refusal: 9 to 12, as above. */
 uint64_t venue_record_check(const uint8_t *bytes, size_t length);
 
-/* The permitted price of a national best bid, in ten-thousandths of a dollar: the lowest price that a restricted short sale may have.
-   0 on refusal: the number isn't a bid (3). A bid is 0 (no bid) or a legal price up to 99,999,900. */
-uint32_t venue_permitted_price(uint32_t bid);
+/* The permitted price of a national best bid at a step, in ten-thousandths of a dollar: the lowest price that a restricted short sale may have.
+   0 on refusal: the step is neither VENUE_CENT nor VENUE_HALF_CENT (17), or the number isn't a bid at this step (3). */
+uint32_t venue_permitted_price(uint32_t step, uint32_t bid);
 
 /* The record of an order: 14 words of 32 bits, 56 bytes with no padding, so that any bytes are a record. In what venue_copy_out writes, the price is
    the present one and the shares are those left. */
@@ -139,10 +145,11 @@ struct venue_watch_record {
     uint32_t phase;
 };
 
-/* A tape price: in phase 0, a price that is 10% or more below the close makes phase 1. Any close is taken, and any other phase stays.
+/* A tape price at a step: in phase 0, a price that is 10% or more below the close makes phase 1. Any close is taken, and any other phase stays.
    The answer is 0, or a refusal, which leaves the record as it was:
-    3  the price isn't legal */
-uint32_t venue_watch(struct venue_watch_record *watch, uint32_t price);
+   17  the step is neither VENUE_CENT nor VENUE_HALF_CENT; the price isn't looked at
+    3  the price isn't legal at this step */
+uint32_t venue_watch(struct venue_watch_record *watch, uint32_t step, uint32_t price);
 
 #ifdef __cplusplus
 }
