@@ -6,3 +6,4 @@ pub mod RoundTrips
 pub mod Examples
 pub mod Calls
 pub mod MarketOrders
+pub mod HalfCents

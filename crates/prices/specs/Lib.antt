@@ -1,3 +1,4 @@
 pub mod Prices
 pub mod Restriction
 pub mod Watch
+pub mod Cents

@@ -4,6 +4,7 @@ use Rattle.numbers.specs.Tests
 use Rattle.numbers.specs.SevenBit
 use Rattle.prices.specs.Prices
 use Rattle.prices.specs.Restriction
+use Rattle.prices.specs.Watch
 use Rattle.book.specs.rules.Orders
 use Rattle.book.specs.rules.Matching
 use Rattle.book.specs.rules.Sound as order-conditions
@@ -14,7 +15,7 @@ use Rattle.engine.specs.rules.Venue
 use Rattle.engine.specs.rules.Sound
 use Rattle.engine.specs.rules.Refusals
 use Rattle.engine.specs.rules.Run
-use Rattle.engine.specs.claims.Examples.{TwelveSums, HalfCentSums, Played}
+use Rattle.engine.specs.claims.Examples.{TwelveSums, HalfCentSums, Played, OtherSteps}
 
 pub twelve-sums : TwelveSums
 unfolding Prices.permitted Restriction.triggers SevenBit.byteCount SevenBit.bytesOf SevenBit.groups Tests.pick
@@ -28,3 +29,13 @@ pub played : Played
 unfolding Tests.pick Tests.every Prices.isStep Prices.legal Prices.isBid Prices.permitted Restriction.triggers Restriction.phaseAfterTape Restriction.phaseAfterDayEnd Restriction.restrictionOn Orders.find Orders.ifSame Orders.restingShares Orders.without Orders.insert Matching.reaches Matching.better Matching.betterOf Matching.bestFrom Matching.best Matching.counterparty Matching.execution Matching.afterTrade Matching.meeting Matching.matchingWith Matching.matchingUpTo Matching.matching order-conditions.idsRise order-conditions.stampsDiffer order-conditions.soundOrder Market.restricted Market.permittedNow Working.limitOf Working.followsBid Working.lifeOf Working.workingPrice Working.orderOf Working.remainder Working.afterRemainder Working.work Pass.displayedClear Pass.moveDown Pass.slideOnce Pass.slideDown Pass.maySlide Pass.moveOf Pass.afterMove Pass.passOne Pass.passOver Venue.opened Venue.entering Venue.effectOfEntry Venue.effectOfCancel Venue.thePass Venue.restrictionReport Venue.effectOfDayEnd Venue.effectOf Sound.sound Refusals.refuseUnless Refusals.firstOf Refusals.codesInRange Refusals.refusalOfTerms Refusals.refusalOfCodes Refusals.refusalOfPlace Refusals.rests Refusals.refusalOfKind Refusals.refusal Run.stepUnless Run.step Run.run
 played =
     record { theDay = refl; clearStays = refl; hiddenMoves = refl; slidingMatches = refl; newStamp = refl; notClear = refl; onceOnly = refl; marketDay = refl; limitOne = refl; bidOfOne = refl; onceKept = refl; halfCentDay = refl }
+
+pub other-steps : OtherSteps
+unfolding Tests.pick Tests.every Prices.isStep Prices.atStep Prices.permittedOf Watch.watchOutcome order-conditions.idsRise order-conditions.stampsDiffer Venue.opened Venue.opening Sound.sound Refusals.refuseUnless Refusals.refusal Run.stepUnless Run.step
+other-steps =
+    record {
+      opening = (refl, (refl, (refl, (refl, (refl, (refl, (refl, tt)))))));
+      permitted = (refl, (refl, (refl, (refl, (refl, (refl, (refl, tt)))))));
+      watch = (refl, (refl, (refl, (refl, (refl, (refl, (refl, tt)))))));
+      event = (refl, (refl, (refl, (refl, (refl, (refl, (refl, tt)))))));
+    }

@@ -4,17 +4,18 @@ use mathlib.Core.Path.{_≡_}
 use mathlib.Core.Bool.{Bool, not}
 use mathlib.Core.List.{List, [], _∷_, map, foldl}
 use lib.Dec.{T, eqb}
-use Rattle.numbers.specs.Tests.{conj}
+use Rattle.numbers.specs.Tests.{conj, All}
 use Rattle.numbers.specs.Answers.{Outcome, gives, refuses}
 use Rattle.numbers.specs.SevenBit.{byteCount}
-use Rattle.prices.specs.Prices.{isBid, permitted}
+use Rattle.prices.specs.Prices.{isBid, permitted, permittedOf}
 use Rattle.prices.specs.Restriction.{triggers}
+use Rattle.prices.specs.Watch.{watchOutcome}
 use Rattle.engine.specs.declared.Event.{Event}
 use Rattle.engine.specs.declared.Event.the-variants.{Entry as entry, Cancel as cancel, Bid as bid, Tape as tape, DayEnd as dayEnd}
 use Rattle.engine.specs.rules.Reports.{Report, accepted, executed, cancelled, repriced, restrictionStarts, dayEnded}
-use Rattle.engine.specs.rules.Venue.{opened}
+use Rattle.engine.specs.rules.Venue.{opened, opening}
 use Rattle.engine.specs.rules.Refusals.{leastBuffer}
-use Rattle.engine.specs.rules.Run.{Call, Answered, run}
+use Rattle.engine.specs.rules.Run.{Call, Answered, step, run}
 
 -- "Shown together by one check of the definitions"
 abbrev pub twelveSums : List Bool
@@ -146,3 +147,14 @@ pub record Played : Type 0 where
   -- with no bid an order with slide once isn't used up: it goes to its entry bid when a bid comes back
   pub onceKept : lastAnswerTo (restrictedDay (entryOf 1 2 0 5 1 0 1 ∷ bid 0 ∷ bid 90_500 ∷ [])) ≡ gives (repriced 1 91_000 2 ∷ [])
   pub halfCentDay : answersAt 50 halfCentEvents ≡ halfCentAnswers
+
+-- other steps than 50 and 100, each beside a number that isn't legal or isn't a bid (No. 2): "refused with 17, before the close or price is looked at"; "in a
+-- venue record it is a broken condition"
+abbrev pub otherSteps : List ℕ
+otherSteps = 0 ∷ 1 ∷ 49 ∷ 75 ∷ 150 ∷ 200 ∷ 4_294_967_295 ∷ []
+
+pub record OtherSteps : Type 0 where
+  pub opening : All (λ (s : ℕ). opening s 0 ≡ refuses 17) otherSteps
+  pub permitted : All (λ (s : ℕ). permittedOf s 100_000_000 ≡ refuses 17) otherSteps
+  pub watch : All (λ (s : ℕ). watchOutcome s 0 ≡ refuses 17) otherSteps
+  pub event : All (λ (s : ℕ). step (opened s 100_000) (bid 0) leastBuffer .answer ≡ refuses 16) otherSteps

@@ -1,0 +1,86 @@
+-- Document 02, No. 2, as claims: a step of 100 leaves every event as it was before. Assumes nothing.
+use Prim.Native.Nat.{ℕ, _*_, max}
+use mathlib.Core.Path.{_≡_}
+use mathlib.Core.Bool.{Bool, not, _&&_, _||_}
+use mathlib.Core.List.{List, [], _∷_}
+use mathlib.Core.Option.{Option, none}
+use lib.Dec.{leb, eqb}
+use lib.ListN.{length}
+use Rattle.numbers.specs.Tests.{pick, conj, every}
+use Rattle.prices.specs.Cents.{legalBefore, isBidBefore, permittedBefore}
+use Rattle.book.specs.declared.Order.{Order}
+use Rattle.book.specs.rules.Orders.{find}
+use Rattle.book.specs.rules.Sound.{mostShares, slideAllowed, marketAllowed, idsRise, stampsDiffer}
+use Rattle.engine.specs.declared.Market.{Market}
+use Rattle.engine.specs.declared.Event.{Event}
+use Rattle.engine.specs.declared.Event.the-variants.{Entry as entry, Cancel as cancel, Bid as bid, Tape as tape, DayEnd as dayEnd}
+use Rattle.engine.specs.declared.Move.{Move}
+use Rattle.engine.specs.declared.Move.the-variants.{Stay, Cancel, Reprice}
+use Rattle.engine.specs.rules.Market.{restricted}
+use Rattle.engine.specs.rules.Working.{isMarket, limitOf, workingPrice}
+use Rattle.engine.specs.rules.Pass.{displayedClear, moveDown, slideOnce, maySlide, moveOf}
+use Rattle.engine.specs.rules.Venue.{Venue}
+use Rattle.engine.specs.rules.Sound.{mostOrders, mostEvents, sound}
+use Rattle.engine.specs.rules.Refusals.{refuseUnless, firstOf, refusalOfCodes, refusalOfPlace, rests, refusalOfKind}
+
+-- Before No. 2: the parts of an event that look at a price, a bid or a permitted price, with document 01's
+
+-- the conditions of a venue record (16)
+abbrev pub orderBefore : ℕ → ℕ → Order → Bool
+orderBefore lastId lastStamp o =
+    conj
+    (leb (o .id) lastId ∷ leb (o .mark) 3 ∷ legalBefore (o .limit) ∷ leb 1 (o .shares) ∷ leb (o .shares) mostShares ∷ leb (o .show) 1 ∷ eqb (o .life) 0
+    ∷ slideAllowed (o .mark) (o .slide) ∷ leb 1 (o .stamp) ∷ leb (o .stamp) lastStamp ∷ legalBefore (o .price) ∷ isBidBefore (o .«entry_bid»)
+    ∷ marketAllowed (o .market) (o .mark) (o .limit) ∷ [])
+
+abbrev pub soundBefore : Venue → Bool
+soundBefore v =
+    conj
+    (leb (length (v .orders)) mostOrders ∷ idsRise 0 (v .orders) ∷ every (orderBefore (v .lastId) (v .lastStamp)) (v .orders) ∷ stampsDiffer (v .orders)
+    ∷ leb (v.market.phase) 2 ∷ legalBefore (v.market.close) ∷ isBidBefore (v.market.bid) ∷ leb (v .acceptedEvents) mostEvents
+    ∷ leb (v .lastStamp) (256 * v.acceptedEvents) ∷ [])
+
+-- the refusals of each kind
+abbrev pub refusalBefore : Venue → Event → Option ℕ
+refusalBefore v (entry e) =
+    firstOf
+    (refuseUnless (isMarket (e .price) || legalBefore (e .price)) 3
+    (refuseUnless (leb 1 (e .shares)) 4
+    (refuseUnless (leb (e .shares) mostShares) 4
+    none)))
+    (firstOf (refusalOfCodes e) (refusalOfPlace v (e .id)))
+refusalBefore v (cancel i) = refuseUnless (rests (find i (v .orders))) 8 none
+refusalBefore v (bid b) = refuseUnless (isBidBefore b) 3 none
+refusalBefore v (tape p) = refuseUnless (legalBefore p) 3 none
+refusalBefore v (dayEnd c) = refuseUnless (legalBefore c) 3 none
+
+-- the price that an entry works at
+abbrev pub workingBefore : Market → ℕ → ℕ → ℕ
+workingBefore m mark price = pick (restricted m mark) (max (limitOf mark price) (permittedBefore (m .bid))) (limitOf mark price)
+
+-- where a restricted order goes in the pass
+abbrev pub slideBefore : Market → Order → Move
+slideBefore m o =
+    pick (eqb (o .slide) 0) (moveDown (max (o .limit) (permittedBefore (m .bid))) (o .used) o)
+    (pick (eqb (o .slide) 1) (slideOnce m o)
+    Stay)
+
+abbrev pub goesBefore : Market → Order → Move
+goesBefore m o =
+    pick (leb (o .price) (m .bid) && not (displayedClear o))
+    (pick (eqb (o .slide) 3) Cancel (Reprice (permittedBefore (m .bid)) (o .used)))
+    (pick (maySlide m o) (slideBefore m o) Stay)
+
+-- As before: a venue record with a step of 100 is sound as before, an event is refused as before, an entry works at the price that it did, and every
+-- order goes where it went; nothing else of an event looks at the step
+pub record EventsAsBefore (v : Venue) : Type 0 where
+  pub sound : sound v ≡ soundBefore v
+  pub refusal : (e : Event) → refusalOfKind v e ≡ refusalBefore v e
+
+pub record PricesGivenAsBefore (m : Market) : Type 0 where
+  pub works : (mark price : ℕ) → workingPrice m mark price ≡ workingBefore m mark price
+  pub moves : (o : Order) → moveOf m o ≡ goesBefore m o
+
+abbrev pub CentsAsBefore : Type 0
+CentsAsBefore =
+    ((v : Venue) → v.market.step ≡ 100 → EventsAsBefore v) × ((m : Market) → m.step ≡ 100 → PricesGivenAsBefore m)
