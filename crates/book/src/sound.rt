@@ -122,14 +122,7 @@ fn market_sound(w: &[u32], i: usize) -> bool
 }
 
 // Whether place i is sound by itself and beside the id of the place before it, 0 for the first.
-fn place_sound(
-    w: &[u32],
-    i: usize,
-    before: u32,
-    step: u32,
-    last_id: u32,
-    last_stamp: u32,
-) -> bool
+fn place_sound(w: &[u32], i: usize, before: u32, step: u32, last_id: u32, last_stamp: u32) -> bool
     requires { ⌜ (venueWords ≤ length (now w)) × (i < 256) × (before ≡ idBefore (now w) i) × T (isStep step) ⌝ }
     ensures { λ r. ⌜ r ≡ soundAt step «last_id» «last_stamp» (now (w .entry)) i ⌝ }
 {

@@ -38,7 +38,7 @@ returns-3 : tie.Need-returns-3
 returns-3 c = opens-no _ _ NotStep (sym (ap outcomeOfPrice (c .enum-told2 .given .1)) ∙ c .before .before .new .ensures)
 
 pub open-spec : {M : Type 1} → statement M
-open-spec = 
+open-spec =
     tie.close
     (tie.spec
     new-requires
