@@ -1,4 +1,4 @@
-/* A host program in C: checks event records, asks for permitted prices and applies single events by venue_apply.
+/* A host program in C: checks event records, asks for permitted prices at both steps, watches a close and applies single events by venue_apply.
    Build and run, from the repository's root:
    rt staticlib host && cc -Wall -Wextra -Iinclude examples/host.c target/staticlib/libhost.a -o target/host && target/host */
 #include <inttypes.h>
@@ -10,9 +10,16 @@ static void check(const char *what, const uint8_t *bytes, size_t length)
     printf("record check, %s: %" PRIu64 "\n", what, venue_record_check(bytes, length));
 }
 
-static void price(const char *what, uint32_t bid)
+static void price(const char *what, uint32_t step, uint32_t bid)
 {
-    printf("permitted price, %s %" PRIu32 ": %" PRIu32 "\n", what, bid, venue_permitted_price(bid));
+    printf("permitted price at %" PRIu32 ", %s %" PRIu32 ": %" PRIu32 "\n", step, what, bid, venue_permitted_price(step, bid));
+}
+
+static void watch(uint32_t step, uint32_t tape)
+{
+    struct venue_watch_record record = {100000, 0};
+    uint32_t answer = venue_watch(&record, step, tape);
+    printf("watch at %" PRIu32 ", tape price %" PRIu32 ": refusal %" PRIu32 ", phase %" PRIu32 "\n", step, tape, venue_refusal(answer), record.phase);
 }
 
 static void apply(const char *what, uint32_t *words, const uint8_t *record, size_t length)
@@ -39,13 +46,23 @@ int main(void)
     check("kind 6", kind_6, sizeof kind_6);
     check("a field of 2^32", field_2_32, sizeof field_2_32);
     check("empty", bid, 0);
-    price("no bid", 0);
-    price("bid", 9999);
-    price("bid", 91100);
-    price("bid", 99999900);
-    price("not a bid", 91150);
-    price("not a bid", 100000000);
-    if (venue_open(words, VENUE_WORDS, 100000) != 0)
+    price("no bid", VENUE_CENT, 0);
+    price("bid", VENUE_CENT, 9999);
+    price("bid", VENUE_CENT, 91100);
+    price("bid", VENUE_CENT, 99999900);
+    price("not a bid", VENUE_CENT, 91150);
+    price("not a bid", VENUE_CENT, 100000000);
+    price("bid", VENUE_HALF_CENT, 9999);
+    price("bid", VENUE_HALF_CENT, 91150);
+    price("bid", VENUE_HALF_CENT, 99999950);
+    price("not a bid", VENUE_HALF_CENT, 91125);
+    price("not a step, bid", 75, 91100);
+    watch(VENUE_CENT, 90000);
+    watch(VENUE_CENT, 89950);
+    watch(VENUE_HALF_CENT, 89950);
+    watch(75, 90000);
+    printf("open at 75: refusal %" PRIu32 "\n", venue_refusal(venue_open(words, VENUE_WORDS, 75, 0)));
+    if (venue_open(words, VENUE_WORDS, VENUE_CENT, 100000) != 0)
         return 1;
     apply("bid 91100", words, bid, sizeof bid);
     apply("entry", words, entry, sizeof entry);

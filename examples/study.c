@@ -189,7 +189,7 @@ static void show_book(void)
 
 int main(void)
 {
-    uint32_t answer = venue_open(words, VENUE_WORDS, 100000);
+    uint32_t answer = venue_open(words, VENUE_WORDS, VENUE_CENT, 100000);
     if (answer != 0) {
         printf("open refused, %" PRIu32 "\n", venue_refusal(answer));
         return 1;

@@ -35,6 +35,7 @@ with open("include/venue.h") as header:
     DEFINED = dict(re.findall(r"#define (\w+) (\d+)", header.read()))
 VENUE_WORDS = int(DEFINED["VENUE_WORDS"])
 VENUE_ORDERS = int(DEFINED["VENUE_ORDERS"])
+VENUE_CENT = int(DEFINED["VENUE_CENT"])
 VENUE_ALL_PLAYED = int(DEFINED["VENUE_ALL_PLAYED"])
 VENUE_ENDS_FULL = int(DEFINED["VENUE_ENDS_FULL"])
 VENUE_REPORTS_FULL = int(DEFINED["VENUE_REPORTS_FULL"])
@@ -52,7 +53,7 @@ class Progress(Structure):
 
 
 venue = CDLL("target/libvenue.so")
-venue.venue_open.argtypes = [POINTER(c_uint32), c_size_t, c_uint32]
+venue.venue_open.argtypes = [POINTER(c_uint32), c_size_t, c_uint32, c_uint32]
 venue.venue_open.restype = c_uint32
 venue.venue_play.argtypes = [POINTER(c_uint32), c_size_t, POINTER(c_uint8), c_size_t, c_uint64, POINTER(c_uint8), c_size_t,
                              POINTER(c_uint64), c_size_t, POINTER(Progress)]
@@ -165,7 +166,7 @@ def show_book():
 
 
 def main():
-    answer = venue.venue_open(words, len(words), 100000)
+    answer = venue.venue_open(words, len(words), VENUE_CENT, 100000)
     if answer != 0:
         raise SystemExit(f"open refused, {answer // 65536}")
     data, day_end = b"", 0

@@ -7,9 +7,11 @@ use std::time::Instant;
 // Where the number of the layout stands.
 const LAYOUT_AT: usize = 15;
 const LAST: u32 = 1_000_000;
+// The step of prices from 10,000 up.
+const STEP: u32 = 100;
 
 extern "C" {
-    fn bench_sound(w: *const u32, n: usize, last_id: u32, last_stamp: u32) -> bool;
+    fn bench_sound(w: *const u32, n: usize, step: u32, last_id: u32, last_stamp: u32) -> bool;
     fn bench_find(w: *const u32, n: usize, id: u32) -> usize;
     fn bench_best(w: *const u32, n: usize, mark: u32, price: u32) -> usize;
     fn bench_insert(w: *mut u32, n: usize, id: u32, mark: u32, price: u32, stamp: u32);
@@ -20,7 +22,7 @@ struct Words(Vec<u32>);
 
 impl Words {
     fn sound(&self, last_id: u32, last_stamp: u32) -> bool {
-        unsafe { bench_sound(self.0.as_ptr(), self.0.len(), last_id, last_stamp) }
+        unsafe { bench_sound(self.0.as_ptr(), self.0.len(), STEP, last_id, last_stamp) }
     }
 
     fn find(&self, id: u32) -> usize {
@@ -61,11 +63,11 @@ struct Order {
 struct Plain(Vec<Order>);
 
 fn legal(p: u32) -> bool {
-    (1..=100_000_000).contains(&p) && (p < 10_000 || p % 100 == 0)
+    (1..=100_000_000).contains(&p) && (p < 10_000 || p % STEP == 0)
 }
 
 fn is_bid(b: u32) -> bool {
-    b == 0 || (legal(b) && b <= 99_999_900)
+    b == 0 || (legal(b) && b <= 100_000_000 - STEP)
 }
 
 fn conditions(o: &Order, last_id: u32, last_stamp: u32) -> bool {
