@@ -309,6 +309,20 @@ mod tests {
         assert_eq!(account.judge([].into_iter()), Ok(()));
     }
 
+    /// The account knows no step: half a cent above the bid is above it.
+    #[test]
+    fn a_short_at_a_half_cent_bid_is_seen() {
+        let mut account = at_bid(91_050);
+        assert_eq!(account.take(&ON, &[Report::RestrictionOn]), Ok(()));
+        let entered = account.take(&entry(1, 2, 90_000), &[accepted(1, 91_100)]);
+        assert_eq!(entered, Ok(()));
+        assert_eq!(account.judge([rest(1, 91_100)].into_iter()), Ok(()));
+        let entered = account.take(&entry(2, 2, 90_000), &[accepted(2, 91_050)]);
+        assert_eq!(entered, Ok(()));
+        let judged = account.judge([rest(1, 91_100), rest(2, 91_050)].into_iter());
+        assert_eq!(judged, Err(Breach::RestingShort(2)));
+    }
+
     /// "Demand 3 covers these orders too": a price of 0 starts a tally as any
     /// entry, and the prices are those of the reports.
     #[test]

@@ -127,8 +127,8 @@ pub fn check(
 mod tests {
     use super::*;
 
-    /// A restricted short with limit 90,000 comes in at bid 91,000, is reported at
-    /// one price and, as it is immediate or cancel, doesn't rest.
+    /// A restricted short with limit 90,000 comes in at a bid and is accepted at a
+    /// price; as it is immediate or cancel, it doesn't rest.
     fn checked(price: u32, bid: u32) -> Result<bool, Fault> {
         let before = Venue {
             phase: 1,

@@ -35,6 +35,7 @@ impl Examiner for Checked {
         let from_open = session.kind.is_from_open();
         self.venue = session.start.clone();
         self.account = from_open.then(|| Account::new(self.venue.close));
+        price_rules::check_record(&self.venue)?;
         let opened = Venue::open(self.venue.step, self.venue.close);
         ensure(!from_open || opened.as_ref() == Ok(&self.venue), "open")
     }

@@ -1,5 +1,5 @@
 //! The price rules of document 01 as they stand there, before any step, and an
-//! event at the step of a cent checked by them. Nothing here is the model's.
+//! event at the step of a cent checked by them. No formula here is the model's.
 
 use crate::model::{Event, Order, Refusal, Report, Venue};
 use crate::sessions::{ensure, Fault};

@@ -4,7 +4,7 @@
 use crate::days::{assert_day, Played, ON};
 use crate::model::{CENT, HALF_CENT};
 
-/// A restricted day that goes on from there.
+/// A day that goes on from where the restriction is on and the bid is 91,000.
 fn assert_restricted_day(step: u32, day: &[Played]) {
     assert_day(step, &[&ON, day].concat());
 }

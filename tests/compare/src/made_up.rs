@@ -96,7 +96,7 @@ pub fn sink_shorts(venue: &mut Venue, market: &Market) {
 pub fn spoil_record(rng: &mut Rng, venue: &mut Venue) {
     let odd = odd_number(rng);
     let len = venue.orders.len();
-    match rng.up_to(31) {
+    match rng.up_to(35) {
         0 => venue.close = odd,
         1 => venue.phase = odd,
         2 => venue.bid = odd,
@@ -111,7 +111,7 @@ pub fn spoil_record(rng: &mut Rng, venue: &mut Venue) {
             venue.orders.push(Order { id, ..last });
         }
         8..14 => spoil_step(rng, venue),
-        14..20 => spoil_price(rng, venue),
+        14..24 => spoil_price(rng, venue),
         _ if len > 0 => {
             let (at, any) = (rng.place(len), rng.place(len));
             let other = rng.pick(&[at.saturating_sub(1), any]);
@@ -138,12 +138,12 @@ fn spoil_price(rng: &mut Rng, venue: &mut Venue) {
     let (half_cents, odd) = (half_cent_price(rng), odd_price(rng));
     let number = rng.pick(&[half_cents, half_cents, HIGHEST - HALF_CENT, odd]);
     let len = venue.orders.len();
-    let place = match rng.up_to(4) {
+    let place = match rng.up_to(7) {
         0 => &mut venue.close,
         1 => &mut venue.bid,
         _ if len == 0 => &mut venue.bid,
-        2 => &mut venue.orders[rng.place(len)].limit,
-        3 => &mut venue.orders[rng.place(len)].price,
+        2..4 => &mut venue.orders[rng.place(len)].limit,
+        4..6 => &mut venue.orders[rng.place(len)].price,
         _ => &mut venue.orders[rng.place(len)].entry_bid,
     };
     *place = number;

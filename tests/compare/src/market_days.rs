@@ -9,7 +9,7 @@ fn assert_day(day: &[Played]) {
     days::assert_day(CENT, day);
 }
 
-/// A restricted day that goes on from there.
+/// A day that goes on from where the restriction is on and the bid is 91,000.
 fn assert_restricted_day(day: &[Played]) {
     assert_day(&[&ON, day].concat());
 }

@@ -1,9 +1,10 @@
-//! Open, the permitted price and the watch of the model at any step, against
-//! document 01's own formulas and what No. 2 of document 02 says beside them.
+//! Open, the permitted price, the watch and the venue record of the model at any
+//! step, against document 01's own formulas and what No. 2 of document 02 says
+//! beside them.
 
 use crate::counts::Counts;
 use crate::document_01;
-use crate::model::{permitted_price, watch_tape, Refusal, Venue, Watch, CENT, HALF_CENT};
+use crate::model::{permitted_price, watch_tape, Order, Refusal, Venue, Watch, CENT, HALF_CENT};
 use crate::odd::{any_price, any_step, any_watch};
 use crate::rng::Rng;
 use crate::sessions::{ensure, Fault};
@@ -46,7 +47,35 @@ fn answer_of(step: u32, takes: bool) -> Result<(), Refusal> {
     }
 }
 
-/// Checks one call of each.
+/// The same record with low prices in place of its own, which are legal at both
+/// steps. A limit stays 1 or another, as a market short depends on it.
+fn with_low_prices(venue: &Venue) -> Venue {
+    let mut other = venue.clone();
+    (other.step, other.close, other.bid) = (CENT, 1, 0);
+    for order in &mut other.orders {
+        order.limit = if order.limit == 1 { 1 } else { 2 };
+        (order.price, order.entry_bid) = (1, 0);
+    }
+    other
+}
+
+/// A venue record is sound where its step is one, "prices and limits legal",
+/// "close legal", "bid and entry bids each a bid" at that step, and the rest is.
+pub fn check_record(venue: &Venue) -> Result<(), Fault> {
+    let step = venue.step;
+    let is_priced = |order: &Order| {
+        let prices = is_legal(step, order.price) && is_legal(step, order.limit);
+        prices && is_bid(step, order.entry_bid)
+    };
+    let sound = matches!(step, HALF_CENT | CENT)
+        && is_legal(step, venue.close)
+        && is_bid(step, venue.bid)
+        && venue.orders.iter().all(is_priced)
+        && with_low_prices(venue).is_sound();
+    ensure(venue.is_sound() == sound, "a record at its step")
+}
+
+/// Checks one call of open, of the permitted price and of the watch.
 pub fn check(rng: &mut Rng, counts: &mut Counts) -> Result<(), Fault> {
     check_open(any_step(rng), any_price(rng), counts)?;
     check_permitted(any_step(rng), any_price(rng), counts)?;

@@ -32,12 +32,16 @@ pub trait Examiner {
     fn recover(&mut self);
 }
 
+/// At so many faults a run ends: where each session has one at its start, no
+/// event would ever be over.
+const MOST_FAULTS: u64 = 1_000;
+
 /// Plays sessions until so many events are over, the rest of a session with a
 /// fault left out. Prints the counts and gives whether there was no fault.
 pub fn run(seed: u64, events: u64, examiner: &mut impl Examiner) -> bool {
     let mut seeds = Rng::new(seed);
     let mut counts = Counts::default();
-    while counts.events < events {
+    while counts.events < events && counts.differences < MOST_FAULTS {
         let seed = seeds.next();
         let before = counts.events;
         if let Err(fault) = play(seed, examiner, &mut counts) {

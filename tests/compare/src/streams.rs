@@ -298,6 +298,16 @@ pub enum Kind {
 impl Kind {
     pub const COUNT: usize = 5;
 
+    fn random(rng: &mut Rng) -> Self {
+        match rng.up_to(99) {
+            0..10 => Kind::Sound,
+            10..18 => Kind::Nonsense,
+            18..33 => Kind::Damaged,
+            33..70 => Kind::MadeUp,
+            _ => Kind::Spoilt,
+        }
+    }
+
     pub fn is_from_open(self) -> bool {
         !matches!(self, Kind::MadeUp | Kind::Spoilt)
     }
@@ -328,13 +338,7 @@ impl Session {
     pub fn new(seed: u64) -> Self {
         let mut rng = Rng::new(seed);
         let market = Market::random(&mut rng);
-        let kind = match rng.up_to(99) {
-            0..10 => Kind::Sound,
-            10..18 => Kind::Nonsense,
-            18..33 => Kind::Damaged,
-            33..70 => Kind::MadeUp,
-            _ => Kind::Spoilt,
-        };
+        let kind = Kind::random(&mut rng);
         let long = rng.pick(&[50, 400, 1_500]);
         let (start, left, bytes) = match kind {
             Kind::Sound => (market.open(&mut rng), long, Vec::new()),
