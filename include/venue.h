@@ -21,7 +21,7 @@ extern "C" {
 /* The number of the layout of these words. venue_open writes it, and words that were stored under another layout are refused with 16. */
 #define VENUE_LAYOUT 3
 
-/* The steps that a venue may be opened with, in ten-thousandths of a dollar. Legal prices are the whole numbers from 1 to 100,000,000, from 10,000 up
+/* The steps that venue_open, venue_permitted_price and venue_watch take, in ten-thousandths of a dollar. Legal prices are the whole numbers from 1 to 100,000,000, from 10,000 up
    the multiples of the step alone. A bid is 0 (no bid) or a legal price up to 100,000,000 less the step. */
 #define VENUE_CENT 100
 #define VENUE_HALF_CENT 50
@@ -63,7 +63,7 @@ uint32_t venue_open(uint32_t *words, size_t words_length, uint32_t step, uint32_
        venue_play, whatever it answers
     1  the buffer has fewer than VENUE_REPORT_BYTES bytes
     2  the venue has accepted 16,777,215 events, the most it takes
-    3  a price, a bid or a close that isn't legal at the venue's step; the price 0 of an entry means market
+    3  a price or a close that isn't legal, or a bid that isn't one, at the venue's step; the price 0 of an entry means market
     4  shares not 1 to 1,000,000
     5  mark, show, life or slide out of range, or a slide with a mark other than short
     6  the id isn't above that of the last accepted entry

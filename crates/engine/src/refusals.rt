@@ -1,4 +1,4 @@
-// Document 01's numbers of the refusals.
+// The papers' numbers of the refusals.
 use crate::Refusal;
 ghost use mathlib.Core.Path.{_≡_};
 ghost use Rattle.engine.specs.rules.Answers.{refusalNumber};

@@ -2,4 +2,4 @@
 pub mod PriceLaws
 pub mod RestrictionLaws
 pub mod Returned
-pub mod CentLaws
+pub mod HalfCentLaws

@@ -11,7 +11,7 @@ use borrow.Author.Tests.{leb-true, leb-false}
 use Rattle.prices.specs.Prices.{highest, dollarBorder, isStep, highestBid, legal, isBid, permitted, atStep, priceOf, permittedOf}
 use Rattle.numbers.specs.Tests.{pick}
 use Rattle.numbers.specs.Answers.{Outcome, gives, refuses}
-use Rattle.numbers.proofs.TestLaws.{by-test, answered-T, answered-yes, answered-no, pick-yes, pick-no, T-true, T-false, not-yes, not-no, bool-ext, and-T, T-and, or-T, T-inl, T-inr, eq→T, tests}
+use Rattle.numbers.proofs.TestLaws.{by-test, answered-T, answered-yes, answered-no, pick-yes, pick-no, not-yes, not-no, bool-ext, and-T, T-and, or-T, T-inl, T-inr, eq→T, tests}
 
 -- what the answer of a call says that tests a bound
 pub within : {t : Bool} (p n : ℕ) → t ≡ leb p n → not t ≡ false → p ≤ n
@@ -20,7 +20,7 @@ within p n e f = leb-true p n (sym e ∙ not-no _ f)
 pub beyond : {t : Bool} (p n : ℕ) → t ≡ leb p n → not t ≡ true → n < p
 beyond p n e f = leb-false p n (sym e ∙ not-yes _ f)
 
--- what the laws use of a step; this is the one proof that looks at 50 and 100
+-- what the laws use of a step, and no law but this one looks at 50 and 100; a step that isn't a cent is half of one, as `steps_in_a_cent` has it
 
 pub record Step (step : ℕ) : Type 0 where
   pub positive : 0 < step
@@ -54,7 +54,7 @@ pub step-refused : {A : Type 0} {t : Bool} (step : ℕ) (x : Outcome A) → t �
 unfolding atStep
 step-refused step x e f = answered-no x _ e (not-yes _ f)
 
--- k steps being a cent, a number is a multiple of the step just where k times the number is one of a cent
+-- k steps being a cent, a number is a multiple of the step just where the number times k is one of 100
 pub multiple-in-cents : (step k p : ℕ) → k * step ≡ 100 → eqb (p * k % 100) 0 ≡ eqb (p % step) 0
 multiple-in-cents step k p e = bool-ext _ _ (λ t. eq→T (down (eqb→eq _ 0 t))) (λ t. eq→T (up (eqb→eq _ 0 t)))
   where

@@ -1,4 +1,4 @@
 pub mod Prices
 pub mod Restriction
 pub mod Watch
-pub mod Cents
+pub mod HalfCents

@@ -70,8 +70,8 @@ fn steps_in_a_cent(step: u32) -> u32
     2
 }
 
-// Whether a price is a multiple of the step: so many times the price is then a multiple of a cent. The remainder is by a constant, since one by the
-// step is a division in each test of the record walk, and so is a choice between two remainders.
+// Whether a price is a multiple of the step, which it is just where the price times the steps in a cent is a multiple of 100. The remainder is by a
+// constant: one by the step, and a choice between two remainders too, is a division in each test of the record walk.
 fn is_multiple(step: u32, value: u32) -> bool
     requires { ⌜ T (isStep step) × (value ≤ highest) ⌝ }
     ensures { λ r. ⌜ r ≡ eqb (value % step) 0 ⌝ }

@@ -27,7 +27,7 @@ fn is_half_cent(argument: &[u8]) -> bool {
     false
 }
 
-// An argument, at the step of the one before it: a step, or a file to play. The result is the step of the next one.
+// An argument: `50`, or a file to play at the step. The result is the step for the next one.
 fn play_argument(step: u32, i: usize) -> u32 {
     let mut space = io::buffer();
     let length = os::arg(i, &mut space);

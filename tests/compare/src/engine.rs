@@ -1,6 +1,8 @@
 //! The proved engine behind its C functions, and the layout of its words.
 
-use crate::model::{Order, OrderRecord, Progress, Refusal, Venue, Watch, PLACES};
+use crate::model::{
+    Order, OrderRecord, Progress, Refusal, Venue, Watch, CENT, HALF_CENT, PLACES,
+};
 
 /// A number that include/venue.h defines, as build.rs passes it on.
 const fn number(digits: &str) -> usize {
@@ -17,6 +19,10 @@ const fn number(digits: &str) -> usize {
 pub const VENUE_WORDS: usize = number(env!("VENUE_WORDS"));
 /// The number of the layout, the last word of the header.
 pub const LAYOUT: u32 = number(env!("VENUE_LAYOUT")) as u32;
+
+// The header's steps are the paper's.
+const _: () = assert!(number(env!("VENUE_CENT")) == CENT as usize);
+const _: () = assert!(number(env!("VENUE_HALF_CENT")) == HALF_CENT as usize);
 
 const HEADER_WORDS: usize = 16;
 const ORDER_WORDS: usize = (VENUE_WORDS - HEADER_WORDS) / PLACES;

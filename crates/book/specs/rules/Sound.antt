@@ -1,4 +1,4 @@
--- The conditions on the orders of a venue record: document 01, "Event", refusal 16, and document 02, No. 1. Assumes nothing.
+-- The conditions on the orders of a venue record: document 01, "Event", refusal 16, and document 02, No. 1 and No. 2. Assumes nothing.
 use Prim.Native.Nat.{ℕ}
 use mathlib.Core.Bool.{Bool, true, not, _&&_, _||_}
 use mathlib.Core.List.{List, [], _∷_}

@@ -5,7 +5,6 @@ use native.Mathlib.Decide.{decLe}
 use mathlib.Core.Path.{_≡_, refl, subst}
 use mathlib.Core.Option.{Option, none, some}
 use mathlib.Core.List.{List, [], _∷_, _++_, map, foldl, List·Memᴰ}
-use lib.Dec.{T}
 use lib.ListN.{length, length-append, length-map}
 use Rattle.numbers.specs.Tests.{All}
 use Rattle.numbers.specs.Answers.{gives}

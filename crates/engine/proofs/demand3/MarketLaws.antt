@@ -17,7 +17,7 @@ pub restricted-mark : (m : Market) (mark : ℕ) → T (restricted m mark) → ma
 unfolding restricted
 restricted-mark m mark t = eqb→eq mark 2 (and-T (restrictionOn (m .phase)) (eqb mark 2) t .1)
 
--- the step is one, and the bid in force is a bid at it
+-- the step is 50 or 100, and the bid in force is a bid at it
 abbrev pub HasPermitted : Market → Type 0
 HasPermitted m = T (isStep (m .step)) × T (isBid (m .step) (m .bid))
 

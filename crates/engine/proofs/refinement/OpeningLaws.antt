@@ -81,7 +81,7 @@ module _ (s close : ℕ) (i : T (isStep s)) (t : T (legal s close)) where
   pub opened-venue : venueOf (openedWords s close) ≡ opened s close
   opened-venue = rw append-nil at (opened-venue-with [])
 
--- the step of words that are a book
+-- one event of words that are a book
 pub step-in : (w : List ℕ) (e : Event) (n : ℕ) → T (isBook w) → stepIn w e n ≡ step (venueOf w) e n
 unfolding stepIn
 step-in w e n t = pick-yes (isBook w) _ _ t

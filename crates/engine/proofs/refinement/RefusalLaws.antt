@@ -18,7 +18,7 @@ use Rattle.engine.specs.rules.Venue.{Venue}
 use Rattle.engine.specs.rules.Sound.{mostOrders, mostEvents, venueConditions, sound}
 use Rattle.engine.specs.rules.Refusals.{refuseUnless, firstOf, codesInRange, refusalOfTerms, refusalOfCodes, refusalOfPlace, rests, refusalOfKind, leastBuffer, refusal}
 
--- the step of a sound record is one
+-- the step of a sound record is 50 or 100
 pub sound-step : (v : Venue) → T (sound v) → T (isStep (v.market.step))
 unfolding sound
 sound-step v t = conj-T (venueConditions v) t .1 .1 .1 .1 .0

@@ -1,36 +1,98 @@
--- No. 2: at a step of 100 every event is as before. Assumes nothing.
-use Prim.Native.Nat.{ℕ}
-use mathlib.Core.Path.{_≡_, refl, sym, ap, _∙_, subst}
-use mathlib.Core.List.{List}
-use Rattle.prices.specs.Prices.{isStep, legal, isBid, permitted}
+-- No. 2: at a step of 100 every event is as before, and every other step than 50 and 100 is refused. Assumes nothing.
+use Prim.Native.Nat.{ℕ, _+_}
+use mathlib.Core.Path.{_≡_, refl, ap, subst}
+use mathlib.Core.Bool.{false, not}
+use mathlib.Core.List.{List, [], _∷_}
+use mathlib.Core.Option.{Option, none, some}
+use lib.Dec.{T, not-T, T-not}
+use Rattle.numbers.specs.Tests.{pick}
+use Rattle.numbers.proofs.TestLaws.{T-false}
+use Rattle.prices.specs.Prices.{isStep, legal, isBid, permitted, atStep}
 use Rattle.book.specs.declared.Order.{Order}
+use Rattle.book.specs.rules.Orders.{find}
 use Rattle.book.specs.rules.Sound.{soundOrder}
 use Rattle.engine.specs.declared.Market.{Market}
+use Rattle.engine.specs.declared.Entry.{Entry}
 use Rattle.engine.specs.declared.Event.{Event}
 use Rattle.engine.specs.declared.Event.the-variants.{Entry as entry, Cancel as cancel, Bid as bid, Tape as tape, DayEnd as dayEnd}
-use Rattle.engine.specs.rules.Market.{permittedNow}
-use Rattle.engine.specs.rules.Working.{workingPrice}
-use Rattle.engine.specs.rules.Pass.{slideDown, moveOf}
-use Rattle.engine.specs.rules.Venue.{Venue}
+use Rattle.engine.specs.rules.Market.{marketAfter, restricted, permittedNow}
+use Rattle.engine.specs.rules.Working.{followsBid, lifeOf, workingPrice, orderOf}
+use Rattle.engine.specs.rules.Pass.{slideOnce, slideDown, maySlide, moveOf, passOne, passOver}
+use Rattle.engine.specs.rules.Venue.{Venue, opening, entering, effectOfEntry, thePass, restrictionReport, effectOfDayEnd, effectOf}
 use Rattle.engine.specs.rules.Sound.{sound}
-use Rattle.engine.specs.rules.Refusals.{refusalOfTerms, refusalOfKind}
-use Rattle.engine.specs.claims.HalfCents.{refusalBefore, EventsAsBefore, PricesGivenAsBefore, CentsAsBefore}
+use Rattle.engine.specs.rules.Refusals.{refuseUnless, refusalOfTerms, refusalOfKind, refusal}
+use Rattle.engine.specs.rules.Run.{stepUnless, step}
+use Rattle.engine.specs.claims.HalfCents.{soundBefore, refusalBefore, EventsAsBefore, PricesGivenAsBefore, withStep, CentsAsBefore, OthersRefused, OtherStepsRefused}
+use Rattle.engine.proofs.refinement.RefusalLaws.{sound-step}
 
-refusals : (v : Venue) → v.market.step ≡ 100 → (e : Event) → refusalOfKind v e ≡ refusalBefore v e
-unfolding refusalOfKind refusalOfTerms legal isBid
-refusals v h (entry e) = rw h
-refusals v h (cancel i) = refl
-refusals v h (bid b) = rw h
-refusals v h (tape p) = rw h
-refusals v h (dayEnd c) = rw h
+-- as before
 
-events : (v : Venue) → v.market.step ≡ 100 → EventsAsBefore v
-unfolding sound soundOrder isStep legal isBid
-events v h = record { sound = rw h; refusal = refusals v h }
+module _ (v : Venue) (h : v.market.step ≡ 100) where
+  kept : (e : Event) → (marketAfter e (v .market)) .step ≡ 100
+  kept (entry e) = h
+  kept (cancel i) = h
+  kept (bid b) = h
+  kept (tape p) = h
+  kept (dayEnd c) = h
+
+  kinds : (e : Event) → refusalOfKind v e ≡ refusalBefore v e
+  unfolding refusalOfKind refusalOfTerms legal isBid
+  kinds (entry e) = rw h
+  kinds (cancel i) = refl
+  kinds (bid b) = rw h
+  kinds (tape p) = rw h
+  kinds (dayEnd c) = rw h
+
+  records : sound v ≡ soundBefore v
+  unfolding sound soundOrder isStep legal isBid
+  records = rw h
+
+  events : EventsAsBefore v
+  unfolding refusal
+  events = record { kept = kept; refusal = λ e n. rw (records, kinds e) }
 
 given : (m : Market) → m.step ≡ 100 → PricesGivenAsBefore m
 unfolding workingPrice moveOf slideDown permittedNow permitted
 given m h = record { works = λ mark price. rw h; moves = λ o. rw h }
 
+-- by the permitted price alone
+
+module _ (s t : ℕ) (m : Market) (h : permitted s (m .bid) ≡ permitted t (m .bid)) where
+  same-order : (stamp : ℕ) (e : Entry) → orderOf (withStep s m) stamp e ≡ orderOf (withStep t m) stamp e
+  unfolding orderOf workingPrice lifeOf followsBid restricted permittedNow
+  same-order stamp e = rw h
+
+  same-turn : (x : Option Order) (os : List Order) (n : ℕ) → passOne (withStep s m) x os n ≡ passOne (withStep t m) x os n
+  unfolding passOne moveOf slideDown slideOnce maySlide restricted permittedNow
+  same-turn none os n = refl
+  same-turn (some o) os n = rw h
+
+  same-pass : (is : List ℕ) (os : List Order) (n : ℕ) → passOver (withStep s m) is os n ≡ passOver (withStep t m) is os n
+  unfolding passOver
+  same-pass [] os n = refl
+  same-pass (i ∷ is) os n = rw (same-turn (find i os) os n, same-pass is)
+
+  same-effect : (v : Venue) (e : Event) → effectOf (withStep s m) v e ≡ effectOf (withStep t m) v e
+  unfolding effectOf effectOfEntry thePass restrictionReport effectOfDayEnd
+  same-effect v (entry e) = ap (λ (o : Order). entering o (v .orders)) (same-order (v .lastStamp + 1) e)
+  same-effect v (cancel i) = refl
+  same-effect v (bid b) = same-pass _ (v .orders) (v .lastStamp)
+  same-effect v (tape p) = rw (same-pass _ (v .orders) (v .lastStamp))
+  same-effect v (dayEnd c) = refl
+
 pub cents-as-before : CentsAsBefore
-cents-as-before = (events, given)
+unfolding opening atStep isStep legal pick
+cents-as-before = record { opening = λ close. refl; events = events; prices = given; effects = same-effect }
+
+-- other steps
+
+module _ (s : ℕ) (n : T (not (isStep s))) where
+  broken : (v : Venue) → v.market.step ≡ s → sound v ≡ false
+  broken v e = T-false (sound v) (not-T (sound v) (λ t. T-not (isStep s) n (subst (λ (x : ℕ). T (isStep x)) e (sound-step v t))))
+
+  others : OthersRefused s
+  unfolding opening atStep refusal refuseUnless step stepUnless pick
+  others = record { opening = λ close. rw (T-false (isStep s) n); event = λ v e x k. rw (broken v e) }
+
+pub other-steps-refused : OtherStepsRefused
+other-steps-refused = others

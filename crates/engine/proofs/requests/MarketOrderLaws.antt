@@ -1,5 +1,5 @@
 -- No. 1: how a market order works, that a resting market short stays while there is no bid, and what is as before. Assumes nothing.
-use Prim.Native.Nat.{ℕ, _≤_, max}
+use Prim.Native.Nat.{ℕ, _≤_, _<_, max}
 use native.Mathlib.Omega.{arith}
 use native.Mathlib.Decide.{ℕ-discrete}
 use mathlib.Core.Path.{_≡_, refl, sym, ap, _∙_, subst}
@@ -12,8 +12,8 @@ use lib.ListN.{length}
 use borrow.Author.Tests.{lt-ltb, lt-leb, eq-eqb, ne-eqb}
 use Rattle.numbers.specs.Tests.{pick, All}
 use Rattle.numbers.proofs.TestLaws.{by-test, T-true, T-false, and-T, nand-T, and-last, and-false, tests, all-map}
-use Rattle.prices.specs.Prices.{highest, isStep, permitted}
-use Rattle.prices.proofs.PriceLaws.{legal-positive, permitted-none}
+use Rattle.prices.specs.Prices.{highest, permitted}
+use Rattle.prices.proofs.PriceLaws.{legal-positive, permitted-by, permitted-none}
 use Rattle.book.specs.declared.Order.{Order}
 use Rattle.book.specs.rules.Orders.{isBuy, find, without}
 use Rattle.book.specs.rules.Matching.{matching}
@@ -39,13 +39,13 @@ use Rattle.engine.specs.rules.Layout.{venueOf, stepIn}
 use Rattle.engine.specs.steps.Steps.{moveInPass}
 use Rattle.engine.specs.claims.MarketOrders.{limitOrder, withTerms, MarketShort, Immediate, MarketOrdersWork, MarketFlagKept, runsPass, MarketShortsStay, MarketShortsStayInCalls, MovesAsBefore, EntriesAsBefore}
 use Rattle.engine.proofs.refinement.RefusalLaws.{Allowed, NotRefused, Unless, refusal-known}
-use Rattle.engine.proofs.demand3.MarketLaws.{restricted-mark, HasPermitted, permittedNow-above}
+use Rattle.engine.proofs.demand3.MarketLaws.{restricted-mark, HasPermitted}
 use Rattle.engine.proofs.demand3.SoundLaws.{SoundBook, book-distinct, book-order, passOne-sound, SoundVenue, sound-venue, market-permits, effectOf-sound}
 use Rattle.engine.proofs.demand3.WorkingKeeps.{work-all}
 
 -- how a market order works
 
-module _ (m : Market) (is : T (isStep (m .step))) (stamp : ℕ) (e : Entry) (z : e.price ≡ 0) where
+module _ (m : Market) (stamp : ℕ) (e : Entry) (z : e.price ≡ 0) where
   zero-price : eqb (e .price) 0 ≡ true
   zero-price = eq-eqb (e .price) 0 z
 
@@ -53,14 +53,18 @@ module _ (m : Market) (is : T (isStep (m .step))) (stamp : ℕ) (e : Entry) (z :
   not-buy : T (restricted m (e .mark)) → eqb (e .mark) 0 ≡ false
   not-buy r = ne-eqb (e .mark) 0 (λ b. omega (arith, restricted-mark m (e .mark) r))
 
+  -- where there is a bid, the permitted price is above 1
+  above-one : 1 ≤ m.bid → 1 < permittedNow m
+  unfolding permittedNow
+  above-one l = permitted-by (m .step) (λ (x : ℕ). 1 < x) (m .bid) (λ b. absurd (omega arith)) (λ b c. omega arith) (λ b. omega arith)
+
   follows : T (restricted m (e .mark) && ltb 0 (m .bid)) → MarketShort m stamp e
   unfolding orderOf workingPrice limitOf lifeOf followsBid pick
   follows t =
       let p = and-T (restricted m (e .mark)) (ltb 0 (m .bid)) t in
       let r = T-true (restricted m (e .mark)) (p .0) in
       let b = T-true (ltb 0 (m .bid)) (p .1) in
-      let above = permittedNow-above m is in
-      let present = leb→le 1 (m .bid) (p .1) in
+      let above = above-one (leb→le 1 (m .bid) (p .1)) in
       record {
         order = rw (zero-price, r, b, not-buy (p .0));
         price = rw (zero-price, r, not-buy (p .0)) (omega arith);
@@ -93,7 +97,7 @@ module _ (m : Market) (is : T (isStep (m .step))) (stamp : ℕ) (e : Entry) (z :
     immediate = record { order = immediate-order; price = immediate-price }
 
 pub market-orders-work : MarketOrdersWork
-market-orders-work m is stamp e z = (follows m is stamp e z, immediate m is stamp e z)
+market-orders-work m stamp e z = (follows m stamp e z, immediate m stamp e z)
 
 -- what each turn of the pass keeps, the pass keeps
 

@@ -66,7 +66,7 @@ noTallies =
       fills = [];
     }
 
--- "It starts with phase 0, bid 0 and no tallies"; the market has the step given to open, s, which nothing here reads
+-- "It starts with phase 0, bid 0 and no tallies"; the market carries the step given to open, s, which is never read
 abbrev pub freshAccount : ℕ → ℕ → Account
 freshAccount s close = record { market = openingMarket s close; tallies = noTallies }
 

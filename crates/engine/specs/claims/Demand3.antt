@@ -65,8 +65,8 @@ pub record Lawful (a : Account) (rs : List Resting) : Type 0 where
   pub shares : (k : ℕ) → a.tallies.entered k ≡ a.tallies.executed k + a.tallies.cancelled k + sharesLeft k rs
   pub lastGiven : All (λ (r : Resting). r.price ≡ a.tallies.lastGiven (r .id)) rs
 
--- for every step and close that open takes and every list of events, each lent a report buffer of any length, the account being fed the step, the
--- close, the events and their answers
+-- for every step and close that open takes and every list of events, each lent a report buffer of any length, the account being fed the close,
+-- the events and their answers, and carrying the step, which neither it nor the law reads
 abbrev pub Demand3 : Type 0
 Demand3 =
     (s close : ℕ) (v : Venue) → opening s close ≡ gives v → (cs : List Call) →

@@ -27,7 +27,7 @@ twelveSums =
 abbrev pub TwelveSums : Type 0
 TwelveSums = T (conj twelveSums)
 
--- four of their kind at a step of 50 (No. 2)
+-- three of their kind at a step of 50, and that the highest price is no bid (No. 2)
 abbrev pub halfCentSums : List Bool
 halfCentSums =
     eqb (permitted 50 9_999) 10_000 ∷ eqb (permitted 50 10_000) 10_050 ∷ eqb (permitted 50 99_999_950) 100_000_000 ∷ not (isBid 50 100_000_000) ∷ []
@@ -148,8 +148,8 @@ pub record Played : Type 0 where
   pub onceKept : lastAnswerTo (restrictedDay (entryOf 1 2 0 5 1 0 1 ∷ bid 0 ∷ bid 90_500 ∷ [])) ≡ gives (repriced 1 91_000 2 ∷ [])
   pub halfCentDay : answersAt 50 halfCentEvents ≡ halfCentAnswers
 
--- other steps than 50 and 100, each beside a number that isn't legal or isn't a bid (No. 2): "refused with 17, before the close or price is looked at"; "in a
--- venue record it is a broken condition"
+-- other steps than 50 and 100 (No. 2), beside a close, a bid and a price that are refused at every step: "refused with 17, before the close or price is looked
+-- at"; in a venue record whose close is legal by itself "it is a broken condition"
 abbrev pub otherSteps : List ℕ
 otherSteps = 0 ∷ 1 ∷ 49 ∷ 75 ∷ 150 ∷ 200 ∷ 4_294_967_295 ∷ []
 
@@ -157,4 +157,4 @@ pub record OtherSteps : Type 0 where
   pub opening : All (λ (s : ℕ). opening s 0 ≡ refuses 17) otherSteps
   pub permitted : All (λ (s : ℕ). permittedOf s 100_000_000 ≡ refuses 17) otherSteps
   pub watch : All (λ (s : ℕ). watchOutcome s 0 ≡ refuses 17) otherSteps
-  pub event : All (λ (s : ℕ). step (opened s 100_000) (bid 0) leastBuffer .answer ≡ refuses 16) otherSteps
+  pub event : All (λ (s : ℕ). step (opened s 1) (bid 0) leastBuffer .answer ≡ refuses 16) otherSteps

@@ -1,13 +1,16 @@
--- Document 02, No. 2, as claims: a step of 100 leaves every event as it was before. Assumes nothing.
+-- Document 02, No. 2, as claims: a step of 100 leaves every event as it was, and every other step than 50 and 100 is refused. Those of prices stand in
+-- `HalfCents` of the crate prices. Assumes nothing.
 use Prim.Native.Nat.{ℕ, _*_, max}
 use mathlib.Core.Path.{_≡_}
 use mathlib.Core.Bool.{Bool, not, _&&_, _||_}
-use mathlib.Core.List.{List, [], _∷_}
+use mathlib.Core.List.{[], _∷_}
 use mathlib.Core.Option.{Option, none}
-use lib.Dec.{leb, eqb}
+use lib.Dec.{T, leb, ltb, eqb}
 use lib.ListN.{length}
 use Rattle.numbers.specs.Tests.{pick, conj, every}
-use Rattle.prices.specs.Cents.{legalBefore, isBidBefore, permittedBefore}
+use Rattle.numbers.specs.Answers.{gives, refuses}
+use Rattle.prices.specs.Prices.{isStep, permitted}
+use Rattle.prices.specs.HalfCents.{legalBefore, isBidBefore, permittedBefore}
 use Rattle.book.specs.declared.Order.{Order}
 use Rattle.book.specs.rules.Orders.{find}
 use Rattle.book.specs.rules.Sound.{mostShares, slideAllowed, marketAllowed, idsRise, stampsDiffer}
@@ -16,12 +19,13 @@ use Rattle.engine.specs.declared.Event.{Event}
 use Rattle.engine.specs.declared.Event.the-variants.{Entry as entry, Cancel as cancel, Bid as bid, Tape as tape, DayEnd as dayEnd}
 use Rattle.engine.specs.declared.Move.{Move}
 use Rattle.engine.specs.declared.Move.the-variants.{Stay, Cancel, Reprice}
-use Rattle.engine.specs.rules.Market.{restricted}
+use Rattle.engine.specs.rules.Market.{marketAfter, restricted}
 use Rattle.engine.specs.rules.Working.{isMarket, limitOf, workingPrice}
 use Rattle.engine.specs.rules.Pass.{displayedClear, moveDown, slideOnce, maySlide, moveOf}
-use Rattle.engine.specs.rules.Venue.{Venue}
-use Rattle.engine.specs.rules.Sound.{mostOrders, mostEvents, sound}
-use Rattle.engine.specs.rules.Refusals.{refuseUnless, firstOf, refusalOfCodes, refusalOfPlace, rests, refusalOfKind}
+use Rattle.engine.specs.rules.Venue.{Venue, opened, opening, effectOf}
+use Rattle.engine.specs.rules.Sound.{mostOrders, mostEvents}
+use Rattle.engine.specs.rules.Refusals.{refuseUnless, firstOf, refusalOfCodes, refusalOfPlace, rests, leastBuffer, refusal}
+use Rattle.engine.specs.rules.Run.{step}
 
 -- Before No. 2: the parts of an event that look at a price, a bid or a permitted price, with document 01's
 
@@ -71,16 +75,34 @@ goesBefore m o =
     (pick (eqb (o .slide) 3) Cancel (Reprice (permittedBefore (m .bid)) (o .used)))
     (pick (maySlide m o) (slideBefore m o) Stay)
 
--- As before: a venue record with a step of 100 is sound as before, an event is refused as before, an entry works at the price that it did, and every
--- order goes where it went; nothing else of an event looks at the step
+-- at a step of 100 the step stays, an event is refused as before, an entry works at the price that it did, and every order goes where it went
 pub record EventsAsBefore (v : Venue) : Type 0 where
-  pub sound : sound v ≡ soundBefore v
-  pub refusal : (e : Event) → refusalOfKind v e ≡ refusalBefore v e
+  pub kept : (e : Event) → (marketAfter e (v .market)) .step ≡ 100
+  pub refusal : (e : Event) (n : ℕ) → refusal v e n ≡ refuseUnless (soundBefore v) 16 (refuseUnless (leb leastBuffer n) 1 (refuseUnless (ltb (v .acceptedEvents) mostEvents) 2 (refusalBefore v e)))
 
 pub record PricesGivenAsBefore (m : Market) : Type 0 where
   pub works : (mark price : ℕ) → workingPrice m mark price ≡ workingBefore m mark price
   pub moves : (o : Order) → moveOf m o ≡ goesBefore m o
 
-abbrev pub CentsAsBefore : Type 0
-CentsAsBefore =
-    ((v : Venue) → v.market.step ≡ 100 → EventsAsBefore v) × ((m : Market) → m.step ≡ 100 → PricesGivenAsBefore m)
+-- what an accepted event does looks at the step by the permitted price alone
+abbrev pub withStep : ℕ → Market → Market
+withStep s m = record { close = m.close; phase = m.phase; bid = m.bid; step = s }
+
+abbrev pub ByPermittedPrice : Type 0
+ByPermittedPrice =
+    (s t : ℕ) (m : Market) → permitted s (m .bid) ≡ permitted t (m .bid) →
+    (v : Venue) (e : Event) → effectOf (withStep s m) v e ≡ effectOf (withStep t m) v e
+
+pub record CentsAsBefore : Type 0 where
+  pub opening : (close : ℕ) → opening 100 close ≡ pick (legalBefore close) (gives (opened 100 close)) (refuses 3)
+  pub events : (v : Venue) → v.market.step ≡ 100 → EventsAsBefore v
+  pub prices : (m : Market) → m.step ≡ 100 → PricesGivenAsBefore m
+  pub effects : ByPermittedPrice
+
+-- "Any other step is refused with 17, before the close or price is looked at; in a venue record it is a broken condition"
+pub record OthersRefused (s : ℕ) : Type 0 where
+  pub opening : (close : ℕ) → opening s close ≡ refuses 17
+  pub event : (v : Venue) → v.market.step ≡ s → (e : Event) (n : ℕ) → step v e n .answer ≡ refuses 16
+
+abbrev pub OtherStepsRefused : Type 0
+OtherStepsRefused = (s : ℕ) → T (not (isStep s)) → OthersRefused s

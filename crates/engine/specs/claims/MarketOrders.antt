@@ -7,7 +7,7 @@ use mathlib.Core.Option.{Option, none, some}
 use lib.Dec.{T, leb, ltb, eqb}
 use Rattle.numbers.specs.Tests.{pick}
 use Rattle.numbers.specs.Answers.{Outcome}
-use Rattle.prices.specs.Prices.{highest, isStep, legal}
+use Rattle.prices.specs.Prices.{highest, legal}
 use Rattle.book.specs.declared.Order.{Order}
 use Rattle.book.specs.rules.Orders.{find}
 use Rattle.book.specs.rules.Sound.{mostShares}
@@ -95,7 +95,7 @@ pub record Immediate (m : Market) (stamp : ℕ) (e : Entry) : Type 0 where
 
 abbrev pub MarketOrdersWork : Type 0
 MarketOrdersWork =
-    (m : Market) → T (isStep (m .step)) → (stamp : ℕ) (e : Entry) → e.price ≡ 0 →
+    (m : Market) (stamp : ℕ) (e : Entry) → e.price ≡ 0 →
     let t : Bool = restricted m (e .mark) && ltb 0 (m .bid) in
     (T t → MarketShort m stamp e) × (T (not t) → Immediate m stamp e)
 

@@ -1,4 +1,4 @@
--- The venue that a run of words means: the words of open, and the step of words. Assumes nothing.
+-- The venue that a run of words means: the words of open, and one event of words. Assumes nothing.
 use Prim.Native.Nat.{ℕ}
 use mathlib.Core.Bool.{Bool, _&&_}
 use mathlib.Core.List.{List}
@@ -42,6 +42,6 @@ freshWords s close = set (set (set (replicate venueWords 0) 1 close) 7 s) layout
 unfoldable pub openedWords : ℕ → ℕ → List ℕ
 openedWords s close = pick (isStep s && legal s close) (freshWords s close) (replicate venueWords 0)
 
--- the step of the venue that the words mean; words that are laid out as none are refused with 16
+-- one event of the venue that the words mean; words that are laid out as none are refused with 16
 unfoldable pub stepIn : List ℕ → Event → ℕ → Step
 stepIn w e n = pick (isBook w) (step (venueOf w) e n) (record { answer = refuses 16; venue = venueOf w })

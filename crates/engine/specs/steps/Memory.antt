@@ -33,7 +33,7 @@ pub record Ordered (w : List ℕ) : Type 0 where
   pub book : Book w
   pub rises : T (idsRise 0 (resting w))
 
--- words that are a book whose step is one
+-- words that are a book, and whose step is 50 or 100
 pub record HasStep (w : List ℕ) : Type 0 where
   pub book : Book w
   pub is : T (isStep (venueOf w .market .step))

@@ -37,7 +37,7 @@ wordsOpened w s close (refuses n) = w
 
 -- The permitted price, which takes the step with each call (No. 2), and the record check
 
--- "these give 0 on refusal (3; 9 to 12), else the price, or the record's byte count; the check reads at offset 0"
+-- "these give 0 on refusal (3; 9 to 12)", from No. 2 on 17 too, "else the price, or the record's byte count; the check reads at offset 0"
 abbrev pub endOrZero : {A : Type 0} → Outcome (Read A) → ℕ
 endOrZero (gives r) = r.end
 endOrZero (refuses n) = 0

@@ -1,4 +1,5 @@
--- The calls of a host program that change no venue: copy out, depth and watch of document 01, each answered by one number. Assumes nothing.
+-- The calls of a host program that change no venue: copy out, depth and watch of document 01 and document 02, No. 2,
+-- each answered by one number. Assumes nothing.
 use Prim.Native.Nat.{ℕ}
 use lib.Dec.{eqb}
 use Rattle.numbers.specs.Tests.{pick}

@@ -1,7 +1,6 @@
--- So many times the price is a multiple of a cent. Assumes nothing.
+-- The price is a multiple of the step just where the price times the steps in a cent is one of 100. Assumes nothing.
 use native.Mathlib.Nat.{mul-le-mul}
 use native.Mathlib.Omega.{arith}
-use borrow.Author.Needs.{needs}
 use Rattle.prices.proofs.PriceLaws.{multiple-in-cents}
 use Rattle.prices.proofs.increments.is_multiple.Statement.{statement}
 use Rattle.prices.proofs.increments.is_multiple.Tie as tie

@@ -1,6 +1,5 @@
 -- Each return has the tests that lead there. Assumes nothing.
 use mathlib.Core.Path.{sym, _∙_}
-use mathlib.Core.Bool.{_&&_}
 use borrow.Author.Needs.{needs}
 use Rattle.numbers.specs.Tests.{pick}
 use Rattle.numbers.proofs.TestLaws.{answered-T}
