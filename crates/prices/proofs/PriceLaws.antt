@@ -1,6 +1,6 @@
 -- Laws of prices, bids and the permitted price, for every step. Assumes nothing.
-use Prim.Native.Nat.{ℕ, suc, _+_, _-_, _*_, _%_, _≤_, _<_, _∣_, max}
-use native.Mathlib.Nat.{mul-comm, zero-mod, add-mod-right, le-of-dvd, dvd-of-mod-eq-zero, mod-eq-zero-of-dvd, dvd-of-mul-dvd-mul-left, mul-dvd-mul-left, dvd-sub}
+use Prim.Native.Nat.{ℕ, suc, _+_, _-_, _*_, _/_, _%_, _≤_, _<_, max}
+use native.Mathlib.Nat.{zero-mul, mul-comm, add-mul, mul-assoc, mul-right-comm, mul-le-mul-left, mul-le-mul-right, zero-mod, mod-lt, mod-eq-of-lt, mod-add-div, add-mod-right, add-mul-mod-self-right, le-of-dvd, dvd-of-mod-eq-zero, dvd-sub}
 use native.Mathlib.Omega.{arith}
 use native.Mathlib.Decide.{decLe, decLt}
 use mathlib.Core.Path.{_≡_, refl, sym, ap, _∙_, subst}
@@ -20,7 +20,7 @@ within p n e f = leb-true p n (sym e ∙ not-no _ f)
 pub beyond : {t : Bool} (p n : ℕ) → t ≡ leb p n → not t ≡ true → n < p
 beyond p n e f = leb-false p n (sym e ∙ not-yes _ f)
 
--- what the laws use of a step, and no law but this one looks at 50 and 100; a step that isn't a cent is half of one, as `steps_in_a_cent` has it
+-- what the laws use of a step, and no law but this one looks at 50 and 100; a step that isn't a cent is half of one, for `share_of`
 
 pub record Step (step : ℕ) : Type 0 where
   pub positive : 0 < step
@@ -54,35 +54,59 @@ pub step-refused : {A : Type 0} {t : Bool} (step : ℕ) (x : Outcome A) → t �
 unfolding atStep
 step-refused step x e f = answered-no x _ e (not-yes _ f)
 
--- k steps being a cent, a number is a multiple of the step just where the number times k is one of 100
-pub multiple-in-cents : (step k p : ℕ) → k * step ≡ 100 → eqb (p * k % 100) 0 ≡ eqb (p % step) 0
-multiple-in-cents step k p e = bool-ext _ _ (λ t. eq→T (down (eqb→eq _ 0 t))) (λ t. eq→T (up (eqb→eq _ 0 t)))
-  where
-    positive : Dec (0 < k) → 0 < k
-    positive (yes l) = l
-    positive (no l) = let z : k ≡ 0 = omega arith in absurd (let f : 0 * step ≡ 100 = subst (λ (x : ℕ). x * step ≡ 100) z e in omega arith)
+-- m being the share of the step in 2^32 + 4, a price up to the highest is a multiple of the step just where its product with m leaves less than m by 2^32
+module _ (step m p : ℕ) (e : m * step ≡ 4294967300) (s : Step step) (h : p ≤ highest) where
+  abbrev whole : ℕ
+  whole = p / step
 
-    -- the same of k times the step and of k times the number
-    down : p * k % 100 ≡ 0 → p % step ≡ 0
-    down f =
-        mod-eq-zero-of-dvd
-        step
-        (dvd-of-mul-dvd-mul-left
-        step
-        (positive (decLt 0 k))
-        (subst
-        (λ (x : ℕ). k * step ∣ x)
-        (mul-comm p k)
-        (subst (λ (x : ℕ). x ∣ p * k) (sym e) (dvd-of-mod-eq-zero 100 f))))
+  abbrev rest : ℕ
+  rest = p % step
 
-    up : p % step ≡ 0 → p * k % 100 ≡ 0
-    up f =
-        mod-eq-zero-of-dvd
-        100
-        (subst
-        (λ (x : ℕ). 100 ∣ x)
-        (mul-comm k p)
-        (subst (λ (x : ℕ). x ∣ k * p) e (mul-dvd-mul-left step k (dvd-of-mod-eq-zero step f))))
+  parts : rest + step * whole ≡ p
+  parts = mod-add-div p step
+
+  -- what the product leaves
+  abbrev left : ℕ
+  left = 4 * whole + rest * m
+
+  product : p * m ≡ left + whole * 4294967296
+  product =
+      let a : p * m ≡ rest * m + step * whole * m = subst (λ (x : ℕ). x * m ≡ rest * m + step * whole * m) parts (add-mul rest (step * whole) m) in
+      let b : step * whole * m ≡ whole * 4294967300 = mul-right-comm step whole m ∙ ap (λ (x : ℕ). x * whole) (mul-comm step m ∙ e) ∙ mul-comm 4294967300 whole in
+      omega (arith, a, b)
+
+  pub share-bound : m ≤ 4294967300
+  share-bound = omega (arith, e, mul-le-mul-left {m = 1} {n = step} m (s .positive))
+
+  -- the share is above four times the whole steps, and the rest below one step
+  small : 4 * (whole + 1) < m
+  small = go (decLt (4 * (whole + 1)) m)
+    where
+      go : Dec (4 * (whole + 1) < m) → 4 * (whole + 1) < m
+      go (yes l) = l
+      go (no l) =
+          let f : m * step ≤ 4 * (whole + 1) * step = mul-le-mul-right {m = m} {n = 4 * (whole + 1)} step (omega arith) in
+          absurd (omega (arith, e, f, mul-assoc 4 (whole + 1) step, add-mul whole 1 step, mul-comm whole step, parts, s .small, h))
+
+  room : rest * m + m ≤ 4294967300
+  room =
+      omega (arith, e, mul-comm step m, add-mul rest 1 m, mul-le-mul-right {m = rest + 1} {n = step} m (omega (arith, mod-lt p (s .positive))))
+
+  fits : left < 4294967296
+  fits = omega (arith, small, room)
+
+  leaves : p * m % 4294967296 ≡ left
+  leaves = ap (λ (x : ℕ). x % 4294967296) product ∙ add-mul-mod-self-right left whole 4294967296 ∙ mod-eq-of-lt fits
+
+  pub multiple-by-share : ltb (p * m % 4294967296) m ≡ eqb rest 0
+  multiple-by-share = bool-ext _ _ (λ t. eq→T (down (decLe 1 rest) (leb→le _ _ t))) (λ t. le→leb _ _ (up (eqb→eq rest 0 t)))
+    where
+      down : Dec (1 ≤ rest) → p * m % 4294967296 < m → rest ≡ 0
+      down (yes l) f = absurd (omega (arith, f, leaves, mul-le-mul-right {m = 1} {n = rest} m l))
+      down (no l) f = omega arith
+
+      up : rest ≡ 0 → p * m % 4294967296 < m
+      up z = omega (arith, leaves, small, ap (λ (x : ℕ). x * m) z, zero-mul m)
 
 -- multiples of a step that differ do so by a step at least
 apart : (step a b : ℕ) → a % step ≡ 0 → b % step ≡ 0 → a < b → a + step ≤ b

@@ -60,23 +60,25 @@ fn below_border(value: u32) -> bool
     value < Price::DOLLAR_BORDER
 }
 
-fn steps_in_a_cent(step: u32) -> u32
+// 2^32 by the step, rounded up: times the step it is 2^32 + 4.
+fn share_of(step: u32) -> u64
     requires { ⌜ T (isStep step) ⌝ }
-    ensures { λ r. ⌜ (r * step ≡ 100) × (r ≤ 2) ⌝ }
+    ensures { λ r. ⌜ r * step ≡ 4294967300 ⌝ }
 {
     if step == CENT {
-        return 1;
+        return 42_949_673;
     }
-    2
+    85_899_346
 }
 
-// Whether a price is a multiple of the step, which it is just where the price times the steps in a cent is a multiple of 100. The remainder is by a
-// constant: one by the step, and a choice between two remainders too, is a division in each test of the record walk.
+// Whether a price is a multiple of the step, by a product in place of a division: a price times the share leaves less than the share, by 2^32, just where
+// nothing is left of the price by the step. A remainder by the step, and a choice between two remainders too, is a division in each test of the record walk.
 fn is_multiple(step: u32, value: u32) -> bool
     requires { ⌜ T (isStep step) × (value ≤ highest) ⌝ }
     ensures { λ r. ⌜ r ≡ eqb (value % step) 0 ⌝ }
 {
-    value * steps_in_a_cent(step) % CENT == 0
+    let share = share_of(step);
+    (value as u64) * share % 4_294_967_296 < share
 }
 
 pub fn is_legal(step: u32, value: u32) -> bool
