@@ -1,13 +1,13 @@
 -- No. 2, of prices: a step of 100 leaves all as it was, so does every step below 10,000, and every other step is refused. Assumes nothing.
-use Prim.Native.Nat.{ℕ, _<_}
+use Prim.Native.Nat.{ℕ}
 use native.Mathlib.Omega.{arith}
-use mathlib.Core.Path.{_≡_, refl, ap}
-use mathlib.Core.Bool.{Bool, false, not}
+use mathlib.Core.Path.{_≡_, refl}
+use mathlib.Core.Bool.{false, not}
 use lib.Dec.{T}
 use borrow.Author.Tests.{le-leb, lt-ltb}
 use Rattle.numbers.specs.Tests.{pick}
 use Rattle.numbers.proofs.TestLaws.{T-false}
-use Rattle.prices.specs.Prices.{highest, dollarBorder, highestBid, isStep, legal, isBid, permitted, atStep, priceOf, permittedOf}
+use Rattle.prices.specs.Prices.{dollarBorder, highestBid, isStep, legal, isBid, permitted, atStep, priceOf, permittedOf}
 use Rattle.prices.specs.Watch.{watchedPhase, watched, watchOutcome}
 use Rattle.prices.specs.HalfCents.{AsBefore, BelowAsBefore, RefusedWith17, StepsOfPrices}
 use Rattle.prices.proofs.PriceLaws.{step-known}

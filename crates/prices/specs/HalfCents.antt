@@ -5,7 +5,7 @@ use mathlib.Core.Path.{_≡_}
 use mathlib.Core.Bool.{Bool, not, _&&_, _||_}
 use lib.Dec.{T, leb, ltb, eqb}
 use Rattle.numbers.specs.Tests.{pick}
-use Rattle.numbers.specs.Answers.{Outcome, gives, refuses}
+use Rattle.numbers.specs.Answers.{gives, refuses}
 use Rattle.prices.specs.declared.Watch.{Watch}
 use Rattle.prices.specs.Prices.{isStep, legal, isBid, permitted, priceOf, permittedOf}
 use Rattle.prices.specs.Restriction.{phaseAfterTape}
