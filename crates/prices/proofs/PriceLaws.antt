@@ -1,6 +1,6 @@
 -- Laws of prices, bids and the permitted price, for every step. Assumes nothing.
-use Prim.Native.Nat.{ℕ, suc, _+_, _-_, _*_, _/_, _%_, _^_, _≤_, _<_, max}
-use native.Mathlib.Nat.{zero-mul, mul-comm, add-mul, mul-assoc, mul-right-comm, mul-le-mul-right, zero-mod, mod-lt, mod-eq-of-lt, mod-add-div, add-mod-right, add-mul-mod-self-right, le-of-dvd, dvd-of-mod-eq-zero, dvd-sub}
+use Prim.Native.Nat.{ℕ, suc, _+_, _-_, _*_, _/_, _%_, _≤_, _<_, max}
+use native.Mathlib.Nat.{zero-mul, mul-comm, add-mul, mul-assoc, mul-right-comm, mul-le-mul-left, mul-le-mul-right, zero-mod, mod-lt, mod-eq-of-lt, mod-add-div, add-mod-right, add-mul-mod-self-right, le-of-dvd, dvd-of-mod-eq-zero, dvd-sub}
 use native.Mathlib.Omega.{arith}
 use native.Mathlib.Decide.{decLe, decLt}
 use mathlib.Core.Path.{_≡_, refl, sym, ap, _∙_, subst}
@@ -54,8 +54,8 @@ pub step-refused : {A : Type 0} {t : Bool} (step : ℕ) (x : Outcome A) → t �
 unfolding atStep
 step-refused step x e f = answered-no x _ e (not-yes _ f)
 
--- m being the share of the step in 2^37 + 28, a number of 32 bits is a multiple of the step just where its product with m leaves less than m by 2^37
-module _ (step m p : ℕ) (e : m * step ≡ 137438953500) (s : Step step) (h : p < 2 ^ 32) where
+-- m being the share of the step in 2^32 + 4, a price up to the highest is a multiple of the step just where its product with m leaves less than m by 2^32
+module _ (step m p : ℕ) (e : m * step ≡ 4294967300) (s : Step step) (h : p ≤ highest) where
   abbrev whole : ℕ
   whole = p / step
 
@@ -67,42 +67,45 @@ module _ (step m p : ℕ) (e : m * step ≡ 137438953500) (s : Step step) (h : p
 
   -- what the product leaves
   abbrev left : ℕ
-  left = 28 * whole + rest * m
+  left = 4 * whole + rest * m
 
-  product : p * m ≡ left + whole * 137438953472
+  product : p * m ≡ left + whole * 4294967296
   product =
       let a : p * m ≡ rest * m + step * whole * m = subst (λ (x : ℕ). x * m ≡ rest * m + step * whole * m) parts (add-mul rest (step * whole) m) in
-      let b : step * whole * m ≡ whole * 137438953500 = mul-right-comm step whole m ∙ ap (λ (x : ℕ). x * whole) (mul-comm step m ∙ e) ∙ mul-comm 137438953500 whole in
+      let b : step * whole * m ≡ whole * 4294967300 = mul-right-comm step whole m ∙ ap (λ (x : ℕ). x * whole) (mul-comm step m ∙ e) ∙ mul-comm 4294967300 whole in
       omega (arith, a, b)
 
-  -- what is left fits: the share is above 28 times the whole steps, and the rest is below one step
-  small : 28 * (whole + 1) < m
-  small = go (decLt (28 * (whole + 1)) m)
+  pub share-bound : m ≤ 4294967300
+  share-bound = omega (arith, e, mul-le-mul-left {m = 1} {n = step} m (s .positive))
+
+  -- the share is above four times the whole steps, and the rest below one step
+  small : 4 * (whole + 1) < m
+  small = go (decLt (4 * (whole + 1)) m)
     where
-      go : Dec (28 * (whole + 1) < m) → 28 * (whole + 1) < m
+      go : Dec (4 * (whole + 1) < m) → 4 * (whole + 1) < m
       go (yes l) = l
       go (no l) =
-          let f : m * step ≤ 28 * (whole + 1) * step = mul-le-mul-right {m = m} {n = 28 * (whole + 1)} step (omega arith) in
-          absurd (omega (arith, e, f, mul-assoc 28 (whole + 1) step, add-mul whole 1 step, mul-comm whole step, parts, s .small, h))
+          let f : m * step ≤ 4 * (whole + 1) * step = mul-le-mul-right {m = m} {n = 4 * (whole + 1)} step (omega arith) in
+          absurd (omega (arith, e, f, mul-assoc 4 (whole + 1) step, add-mul whole 1 step, mul-comm whole step, parts, s .small, h))
 
-  room : rest * m + m ≤ 137438953500
+  room : rest * m + m ≤ 4294967300
   room =
       omega (arith, e, mul-comm step m, add-mul rest 1 m, mul-le-mul-right {m = rest + 1} {n = step} m (omega (arith, mod-lt p (s .positive))))
 
-  fits : left < 137438953472
+  fits : left < 4294967296
   fits = omega (arith, small, room)
 
-  leaves : p * m % 137438953472 ≡ left
-  leaves = ap (λ (x : ℕ). x % 137438953472) product ∙ add-mul-mod-self-right left whole 137438953472 ∙ mod-eq-of-lt fits
+  leaves : p * m % 4294967296 ≡ left
+  leaves = ap (λ (x : ℕ). x % 4294967296) product ∙ add-mul-mod-self-right left whole 4294967296 ∙ mod-eq-of-lt fits
 
-  pub multiple-by-share : ltb (p * m % 137438953472) m ≡ eqb rest 0
+  pub multiple-by-share : ltb (p * m % 4294967296) m ≡ eqb rest 0
   multiple-by-share = bool-ext _ _ (λ t. eq→T (down (decLe 1 rest) (leb→le _ _ t))) (λ t. le→leb _ _ (up (eqb→eq rest 0 t)))
     where
-      down : Dec (1 ≤ rest) → p * m % 137438953472 < m → rest ≡ 0
+      down : Dec (1 ≤ rest) → p * m % 4294967296 < m → rest ≡ 0
       down (yes l) f = absurd (omega (arith, f, leaves, mul-le-mul-right {m = 1} {n = rest} m l))
       down (no l) f = omega arith
 
-      up : rest ≡ 0 → p * m % 137438953472 < m
+      up : rest ≡ 0 → p * m % 4294967296 < m
       up z = omega (arith, leaves, small, ap (λ (x : ℕ). x * m) z, zero-mul m)
 
 -- multiples of a step that differ do so by a step at least
@@ -229,18 +232,21 @@ module _ (step : ℕ) where
       go (inl x) = omega arith
       go (inr x) = x .1
 
-  pub bid-whole : (b : ℕ) → b % step ≡ 0 → leb b (highestBid step) ≡ isBid step b
-  bid-whole b e = bool-ext _ _ (λ t. bid-in b (go (leb→le b (highestBid step) t) (decLe 1 b))) (λ t. le→leb b (highestBid step) (bid-highest b t))
-    where
-      go : b ≤ highestBid step → Dec (1 ≤ b) → (b ≡ 0) ⊎ (Legal b × (b ≤ highestBid step))
-      go h (yes l) = inr (record { low = l; high = omega arith; onStep = inr e }, h)
-      go h (no l) = inl (omega arith)
+  pub bid-beyond : (b : ℕ) → highestBid step < b → false ≡ isBid step b
+  bid-beyond b h = bool-ext _ _ (λ t. absurd t) (λ t. absurd (omega (arith, bid-highest b t)))
 
-  pub bid-other : T (isStep step) → (b : ℕ) → (b % step ≡ 0 → ⊥) → ltb b dollarBorder ≡ isBid step b
-  bid-other is b n = bool-ext _ _ (λ t. bid-in b (inr (go (leb→le (suc b) dollarBorder t)))) (λ t. out (bid-out b t))
+  pub bid-whole : (b : ℕ) → b ≤ highestBid step → b % step ≡ 0 → true ≡ isBid step b
+  bid-whole b h e = bool-ext _ _ (λ t. bid-in b (go (decLe 1 b))) (λ t. tt)
+    where
+      go : Dec (1 ≤ b) → (b ≡ 0) ⊎ (Legal b × (b ≤ highestBid step))
+      go (yes l) = inr (record { low = l; high = omega arith; onStep = inr e }, h)
+      go (no l) = inl (omega arith)
+
+  pub bid-other : (b : ℕ) → b ≤ highestBid step → (b % step ≡ 0 → ⊥) → ltb b dollarBorder ≡ isBid step b
+  bid-other b h n = bool-ext _ _ (λ t. bid-in b (inr (go (leb→le (suc b) dollarBorder t)))) (λ t. out (bid-out b t))
     where
       go : b < dollarBorder → Legal b × (b ≤ highestBid step)
-      go l = (record { low = not-whole b n; high = omega arith; onStep = inl l }, omega (arith, step-known step is .small))
+      go l = (record { low = not-whole b n; high = omega arith; onStep = inl l }, h)
 
       out : (b ≡ 0) ⊎ (Legal b × (b ≤ highestBid step)) → T (ltb b dollarBorder)
       out (inl z) = le→leb (suc b) dollarBorder (omega arith)

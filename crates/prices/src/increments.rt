@@ -60,25 +60,25 @@ fn below_border(value: u32) -> bool
     value < Price::DOLLAR_BORDER
 }
 
-// 2^37 by the step, rounded up: times the step it is 2^37 + 28.
+// 2^32 by the step, rounded up: times the step it is 2^32 + 4.
 fn share_of(step: u32) -> u64
     requires { ⌜ T (isStep step) ⌝ }
-    ensures { λ r. ⌜ (r * step ≡ 137438953500) × (r ≤ 2748779070) ⌝ }
+    ensures { λ r. ⌜ r * step ≡ 4294967300 ⌝ }
 {
     if step == CENT {
-        return 1_374_389_535;
+        return 42_949_673;
     }
-    2_748_779_070
+    85_899_346
 }
 
-// Whether a number is a multiple of the step, by a product in place of a division: times the share it leaves less than the share, by 2^37, just where
-// by the step it leaves nothing. A remainder by the step, and a choice between two remainders too, is a division in each test of the record walk.
+// Whether a price is a multiple of the step, by a product in place of a division: a price times the share leaves less than the share, by 2^32, just where
+// nothing is left of the price by the step. A remainder by the step, and a choice between two remainders too, is a division in each test of the record walk.
 fn is_multiple(step: u32, value: u32) -> bool
-    requires { ⌜ T (isStep step) ⌝ }
+    requires { ⌜ T (isStep step) × (value ≤ highest) ⌝ }
     ensures { λ r. ⌜ r ≡ eqb (value % step) 0 ⌝ }
 {
     let share = share_of(step);
-    (value as u64) * share % 137_438_953_472 < share
+    (value as u64) * share % 4_294_967_296 < share
 }
 
 pub fn is_legal(step: u32, value: u32) -> bool
@@ -99,8 +99,11 @@ pub fn is_bid(step: u32, value: u32) -> bool
     requires { ⌜ T (isStep step) ⌝ }
     ensures { λ r. ⌜ r ≡ isBid step value ⌝ }
 {
+    if !up_to_highest_bid(step, value) {
+        return false;
+    }
     if is_multiple(step, value) {
-        return up_to_highest_bid(step, value);
+        return true;
     }
     below_border(value)
 }

@@ -13,12 +13,10 @@ returns : tie.Need-returns
 returns c = legal-beyond _ _ (beyond _ _ (c .before .up-to-highest .ensures) (c .if1 .taken))
 
 is-multiple-requires : tie.Need-is-multiple-requires
-is-multiple-requires c κs = search needs
+is-multiple-requires c κs = (c .before .before .pre, within _ _ (c .before .up-to-highest .ensures) (c .if1 .left))
 
 returns-2 : tie.Need-returns-2
-returns-2 c =
-    let d = c .before in
-    legal-whole _ _ (within _ _ (d .before .before .up-to-highest .ensures) (d .before .if1 .left)) (eqb-true _ 0 (sym (d .is-multiple .ensures) ∙ c .if2 .taken))
+returns-2 c = let d = c .before in legal-whole _ _ (is-multiple-requires (d .before) tt .1) (eqb-true _ 0 (sym (d .is-multiple .ensures) ∙ c .if2 .taken))
 
 below-border-requires : tie.Need-below-border-requires
 below-border-requires c κs = search needs
@@ -26,7 +24,7 @@ below-border-requires c κs = search needs
 returns-3 : tie.Need-returns-3
 returns-3 c =
     let d = c .before .before in
-    c .below-border .ensures ∙ legal-other _ _ (within _ _ (d .before .before .up-to-highest .ensures) (d .before .if1 .left)) (eqb-false _ 0 (sym (d .is-multiple .ensures) ∙ c .before .if2 .left))
+    c .below-border .ensures ∙ legal-other _ _ (is-multiple-requires (d .before) tt .1) (eqb-false _ 0 (sym (d .is-multiple .ensures) ∙ c .before .if2 .left))
 
 pub is-legal-spec : {M : Type 1} → statement M
 is-legal-spec = tie.close (tie.spec up-to-highest-requires returns is-multiple-requires returns-2 below-border-requires returns-3)
