@@ -232,21 +232,21 @@ module _ (step : ℕ) where
       go (inl x) = omega arith
       go (inr x) = x .1
 
-  pub bid-beyond : (b : ℕ) → highestBid step < b → false ≡ isBid step b
+  pub bid-beyond : (b : ℕ) → highest < b → false ≡ isBid step b
   bid-beyond b h = bool-ext _ _ (λ t. absurd t) (λ t. absurd (omega (arith, bid-highest b t)))
 
-  pub bid-whole : (b : ℕ) → b ≤ highestBid step → b % step ≡ 0 → true ≡ isBid step b
-  bid-whole b h e = bool-ext _ _ (λ t. bid-in b (go (decLe 1 b))) (λ t. tt)
+  pub bid-whole : (b : ℕ) → b % step ≡ 0 → leb b (highestBid step) ≡ isBid step b
+  bid-whole b e = bool-ext _ _ (λ t. bid-in b (go (leb→le b (highestBid step) t) (decLe 1 b))) (λ t. le→leb b (highestBid step) (bid-highest b t))
     where
-      go : Dec (1 ≤ b) → (b ≡ 0) ⊎ (Legal b × (b ≤ highestBid step))
-      go (yes l) = inr (record { low = l; high = omega arith; onStep = inr e }, h)
-      go (no l) = inl (omega arith)
+      go : b ≤ highestBid step → Dec (1 ≤ b) → (b ≡ 0) ⊎ (Legal b × (b ≤ highestBid step))
+      go h (yes l) = inr (record { low = l; high = omega arith; onStep = inr e }, h)
+      go h (no l) = inl (omega arith)
 
-  pub bid-other : (b : ℕ) → b ≤ highestBid step → (b % step ≡ 0 → ⊥) → ltb b dollarBorder ≡ isBid step b
-  bid-other b h n = bool-ext _ _ (λ t. bid-in b (inr (go (leb→le (suc b) dollarBorder t)))) (λ t. out (bid-out b t))
+  pub bid-other : T (isStep step) → (b : ℕ) → (b % step ≡ 0 → ⊥) → ltb b dollarBorder ≡ isBid step b
+  bid-other is b n = bool-ext _ _ (λ t. bid-in b (inr (go (leb→le (suc b) dollarBorder t)))) (λ t. out (bid-out b t))
     where
       go : b < dollarBorder → Legal b × (b ≤ highestBid step)
-      go l = (record { low = not-whole b n; high = omega arith; onStep = inl l }, h)
+      go l = (record { low = not-whole b n; high = omega arith; onStep = inl l }, omega (arith, step-known step is .small))
 
       out : (b ≡ 0) ⊎ (Legal b × (b ≤ highestBid step)) → T (ltb b dollarBorder)
       out (inl z) = le→leb (suc b) dollarBorder (omega arith)

@@ -99,11 +99,11 @@ pub fn is_bid(step: u32, value: u32) -> bool
     requires { ⌜ T (isStep step) ⌝ }
     ensures { λ r. ⌜ r ≡ isBid step value ⌝ }
 {
-    if !up_to_highest_bid(step, value) {
+    if !up_to_highest(value) {
         return false;
     }
     if is_multiple(step, value) {
-        return true;
+        return up_to_highest_bid(step, value);
     }
     below_border(value)
 }
