@@ -82,8 +82,7 @@ pub enum Refusal {
     // a price, a close or a bid that isn't one
     PriceNotLegal,
     SharesOutOfRange,
-    // mark, show, life or slide
-    CodeOutOfRange,
+    ShowOrLifeOutOfRange,
     // the id isn't above the last accepted one
     IdNotNew,
     BookFull,
@@ -93,6 +92,10 @@ pub enum Refusal {
     VenueBroken,
     // a step that is neither 50 nor 100
     NotStep,
+    MarkOutOfRange,
+    SlideOutOfRange,
+    // a slide other than 0 on an order that isn't short
+    SlideOnWrongMark,
 }
 
 // Whether an event is refused, and why.

@@ -11,11 +11,14 @@ pub fn number_of(refusal: Refusal) -> u32
         Refusal::EventsSpent => 2,
         Refusal::PriceNotLegal => 3,
         Refusal::SharesOutOfRange => 4,
-        Refusal::CodeOutOfRange => 5,
+        Refusal::ShowOrLifeOutOfRange => 5,
         Refusal::IdNotNew => 6,
         Refusal::BookFull => 7,
         Refusal::NotResting => 8,
         Refusal::VenueBroken => 16,
         Refusal::NotStep => 17,
+        Refusal::MarkOutOfRange => 18,
+        Refusal::SlideOutOfRange => 19,
+        Refusal::SlideOnWrongMark => 20,
     }
 }

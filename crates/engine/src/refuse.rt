@@ -9,6 +9,7 @@ use prices::increments;
 ghost use mathlib.Core.Path.{_≡_};
 ghost use Prim.Native.Nat.{_≤_};
 ghost use mathlib.Core.Bool.{_||_};
+ghost use lib.Dec.{eqb};
 ghost use lib.ListN.{length};
 ghost use Rattle.numbers.specs.Tests.{conj};
 ghost use Rattle.prices.specs.Prices.{legal, isBid};
@@ -17,7 +18,7 @@ ghost use Rattle.book.specs.steps.BookSteps.{Book};
 ghost use Rattle.engine.specs.declared.Event.the-variants.{Entry as entry};
 ghost use Rattle.engine.specs.rules.Working.{isMarket};
 ghost use Rattle.engine.specs.rules.Sound.{headerConditions};
-ghost use Rattle.engine.specs.rules.Refusals.{codesInRange, refusalOfTerms, refusalOfPlace, refusalOfKind};
+ghost use Rattle.engine.specs.rules.Refusals.{refusalOfTerms, refusalOfCodes, refusalOfPlace, refusalOfKind};
 ghost use Rattle.engine.specs.rules.Layout.{venueOf, soundWords};
 ghost use Rattle.engine.specs.rules.Answers.{refusedWith};
 ghost use Rattle.engine.specs.steps.Memory.{HasStep};
@@ -26,21 +27,6 @@ pub(crate) const MOST_EVENTS: u32 = 16_777_215;
 
 // The least length of a report buffer.
 pub const LEAST_BUFFER: usize = 16_384;
-
-fn codes_in_range(e: Entry) -> bool
-    ensures { λ r. ⌜ r ≡ codesInRange e ⌝ }
-{
-    if e.mark > 3 {
-        return false;
-    }
-    if e.show > 1 {
-        return false;
-    }
-    if e.life > 1 {
-        return false;
-    }
-    sound::slide_allowed(e.mark, e.slide)
-}
 
 // Whether a number is a bid, and whether it is a legal price, at the step of the venue.
 pub(crate) fn allows_bid(w: &[u32], bid: u32) -> bool
@@ -85,6 +71,38 @@ fn terms_refusal(w: &[u32], price: u32, shares: u32) -> MayRefuse
     MayRefuse::Allow
 }
 
+// "slide on the wrong mark": a slide other than 0 on an order that isn't short.
+fn slide_on_right_mark(mark: u32, slide: u32) -> bool
+    ensures { λ r. ⌜ r ≡ (eqb slide 0 || eqb mark 2) ⌝ }
+{
+    if slide == 0 {
+        return true;
+    }
+    mark == 2
+}
+
+// The codes of an entry, "in the order mark, show, life, slide code, slide on the wrong mark".
+fn codes_refusal(e: Entry) -> MayRefuse
+    ensures { λ r. ⌜ refusedWith r ≡ refusalOfCodes e ⌝ }
+{
+    if e.mark > 3 {
+        return MayRefuse::Refuse(Refusal::MarkOutOfRange);
+    }
+    if e.show > 1 {
+        return MayRefuse::Refuse(Refusal::ShowOrLifeOutOfRange);
+    }
+    if e.life > 1 {
+        return MayRefuse::Refuse(Refusal::ShowOrLifeOutOfRange);
+    }
+    if e.slide > 3 {
+        return MayRefuse::Refuse(Refusal::SlideOutOfRange);
+    }
+    if !slide_on_right_mark(e.mark, e.slide) {
+        return MayRefuse::Refuse(Refusal::SlideOnWrongMark);
+    }
+    MayRefuse::Allow
+}
+
 // The place of an entry: its id, and room in the book.
 fn place_refusal(w: &[u32], id: u32) -> MayRefuse
     requires { ⌜ Book (now w) ⌝ }
@@ -105,12 +123,10 @@ pub(crate) fn entry_refusal(w: &[u32], e: Entry) -> MayRefuse
 {
     match terms_refusal(w, e.price, e.shares) {
         MayRefuse::Refuse(refusal) => MayRefuse::Refuse(refusal),
-        MayRefuse::Allow => {
-            if !codes_in_range(e) {
-                return MayRefuse::Refuse(Refusal::CodeOutOfRange);
-            }
-            place_refusal(w, e.id)
-        }
+        MayRefuse::Allow => match codes_refusal(e) {
+            MayRefuse::Refuse(refusal) => MayRefuse::Refuse(refusal),
+            MayRefuse::Allow => place_refusal(w, e.id),
+        },
     }
 }
 

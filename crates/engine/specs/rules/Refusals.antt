@@ -1,11 +1,9 @@
--- The refusals of an event, in their order: document 01, "Operations", and document 02, No. 1 and No. 2. Assumes nothing.
+-- The refusals of an event, in their order: document 01, "Operations", and document 02, No. 1 to No. 3. Assumes nothing.
 use Prim.Native.Nat.{ℕ}
 use mathlib.Core.Bool.{Bool, true, false, _||_}
-use mathlib.Core.List.{List, [], _∷_}
 use mathlib.Core.Option.{Option, none, some}
-use lib.Dec.{leb, ltb}
+use lib.Dec.{leb, ltb, eqb}
 use lib.ListN.{length}
-use Rattle.numbers.specs.Tests.{conj}
 use Rattle.prices.specs.Prices.{legal, isBid}
 use Rattle.book.specs.declared.Order.{Order}
 use Rattle.book.specs.rules.Orders.{find}
@@ -14,7 +12,7 @@ use Rattle.engine.specs.declared.Event.{Event}
 use Rattle.engine.specs.declared.Event.the-variants.{Entry as entry, Cancel as cancel, Bid as bid, Tape as tape, DayEnd as dayEnd}
 use Rattle.engine.specs.rules.Working.{isMarket}
 use Rattle.engine.specs.rules.Venue.{Venue}
-use Rattle.book.specs.rules.Sound.{mostShares, slideAllowed}
+use Rattle.book.specs.rules.Sound.{mostShares}
 use Rattle.engine.specs.rules.Sound.{mostOrders, mostEvents, sound}
 
 -- refusal n unless the test holds, else what comes later in the order
@@ -27,13 +25,6 @@ unfoldable pub firstOf : Option ℕ → Option ℕ → Option ℕ
 firstOf (some n) later = some n
 firstOf none later = later
 
--- "5 mark, show, life or slide"
-abbrev pub entryCodes : Entry → List Bool
-entryCodes e = leb (e .mark) 3 ∷ leb (e .show) 1 ∷ leb (e .life) 1 ∷ slideAllowed (e .mark) (e .slide) ∷ []
-
-unfoldable pub codesInRange : Entry → Bool
-codesInRange e = conj (entryCodes e)
-
 -- the refusals of an entry, in three parts
 
 -- its terms: "3 price not legal; 4 shares"; No. 1: "refusal 3 no longer meets an entry price of 0"; No. 2: prices are
@@ -45,9 +36,16 @@ refusalOfTerms step price shares =
     (refuseUnless (leb shares mostShares) 4
     none))
 
--- its codes
+-- its codes, No. 3: "A bad mark, a bad slide code, and a slide on an order that isn't short become their own answers. A bad show or life keeps 5. They are
+-- looked for in the order mark, show, life, slide code, slide on the wrong mark. These carry 18, 19 and 20, in the place where 5 stands"
 unfoldable pub refusalOfCodes : Entry → Option ℕ
-refusalOfCodes e = refuseUnless (codesInRange e) 5 none
+refusalOfCodes e =
+    refuseUnless (leb (e .mark) 3) 18
+    (refuseUnless (leb (e .show) 1) 5
+    (refuseUnless (leb (e .life) 1) 5
+    (refuseUnless (leb (e .slide) 3) 19
+    (refuseUnless (eqb (e .slide) 0 || eqb (e .mark) 2) 20
+    none))))
 
 -- its place: "6 id not above the last accepted id (0 never is); 7 if 256 orders rest"
 unfoldable pub refusalOfPlace : Venue → ℕ → Option ℕ
