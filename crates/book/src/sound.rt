@@ -6,7 +6,7 @@ ghost use Prim.Native.Nat.{_<_, _≤_};
 ghost use lib.Dec.{T};
 ghost use lib.ListN.{length};
 ghost use Rattle.prices.specs.Prices.{isStep};
-ghost use Rattle.book.specs.rules.Sound.{slideAllowed, soundOrder};
+ghost use Rattle.book.specs.rules.Sound.{soundOrder};
 ghost use Rattle.book.specs.rules.Words.{venueWords, word, orderAt, headerLaidOut, soundBook};
 ghost use Rattle.book.specs.steps.RecordWalk.{fromOne, codesSound, pricesSound, bitsAt, marketAt, idBefore, bucketOf, stampSeen, lastIn, Linked, soundAt};
 
@@ -27,18 +27,6 @@ fn codes_sound(mark: u32, life: u32, slide: u32) -> bool
         return false;
     }
     slide == 0
-}
-
-pub fn slide_allowed(mark: u32, slide: u32) -> bool
-    ensures { λ r. ⌜ r ≡ slideAllowed mark slide ⌝ }
-{
-    if slide > 3 {
-        return false;
-    }
-    if slide == 0 {
-        return true;
-    }
-    mark == 2
 }
 
 // The present price of most orders is their limit.

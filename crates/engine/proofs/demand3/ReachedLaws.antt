@@ -2,11 +2,12 @@
 use Prim.Native.Nat.{ℕ, _≤_, _<_}
 use native.Mathlib.Omega.{arith}
 use mathlib.Core.Path.{_≡_, refl, subst}
-use mathlib.Core.Bool.{Bool, true, false, not}
+use mathlib.Core.Bool.{Bool, true, false, not, _&&_}
 use mathlib.Core.Option.{Option, none, some}
 use mathlib.Core.List.{List, [], _∷_}
-use lib.Dec.{T, T-not}
+use lib.Dec.{T, T-not, leb, ltb, eqb}
 use Rattle.numbers.specs.Answers.{refuses, gives}
+use Rattle.numbers.proofs.TestLaws.{tests}
 use Rattle.prices.specs.Prices.{isStep, legal}
 use Rattle.engine.specs.declared.Entry.{Entry}
 use Rattle.engine.specs.declared.Event.{Event}
@@ -67,28 +68,47 @@ unfolding refuseUnless
 refuseUnless-not true n later h k = k
 refuseUnless-not false n later h k = h tt
 
+-- the numbers of the refusals but 16
+abbrev other : ℕ → Bool
+other n = not (eqb n 16) && (leb 1 n && ltb n 128)
+
+refuseUnless-other : (b : Bool) (n : ℕ) (later : Option ℕ) → T (other n) → Refused later → Refused (refuseUnless b n later)
+refuseUnless-other b n later h = refuseUnless-not b n later (λ t. (λ z. omega (tests, h, z), omega (tests, h), omega (tests, h)))
+
 firstOf-not : (r later : Option ℕ) → Refused r → Refused later → Refused (firstOf r later)
 unfolding firstOf
 firstOf-not none later h k = k
 firstOf-not (some n) later h k = h
 
+terms-not : (step price shares : ℕ) → Refused (refusalOfTerms step price shares)
+unfolding refusalOfTerms
+terms-not step price shares = refuseUnless-other _ 3 _ tt (refuseUnless-other _ 4 _ tt (refuseUnless-other _ 4 none tt tt))
+
+codes-not : (e : Entry) → Refused (refusalOfCodes e)
+unfolding refusalOfCodes
+codes-not e =
+    refuseUnless-other _ 18 _ tt (refuseUnless-other _ 5 _ tt (refuseUnless-other _ 5 _ tt (refuseUnless-other _ 19 _ tt (refuseUnless-other _ 20 none tt tt))))
+
+place-not : (v : Venue) (id : ℕ) → Refused (refusalOfPlace v id)
+unfolding refusalOfPlace
+place-not v id = refuseUnless-other _ 6 _ tt (refuseUnless-other _ 7 none tt tt)
+
 refusalOfEntry-not : (v : Venue) (e : Entry) → Refused (refusalOfKind v (entry e))
-unfolding refusalOfKind refusalOfTerms refusalOfCodes refusalOfPlace
-refusalOfEntry-not v e =
-    firstOf-not _ _ (refuseUnless-not _ _ _ (λ t. (λ z. omega arith, omega arith, omega arith)) (refuseUnless-not _ _ _ (λ t. (λ z. omega arith, omega arith, omega arith)) (refuseUnless-not _ _ none (λ t. (λ z. omega arith, omega arith, omega arith)) tt))) (firstOf-not _ _ (refuseUnless-not _ _ none (λ t. (λ z. omega arith, omega arith, omega arith)) tt) (refuseUnless-not _ _ _ (λ t. (λ z. omega arith, omega arith, omega arith)) (refuseUnless-not _ _ none (λ t. (λ z. omega arith, omega arith, omega arith)) tt)))
+unfolding refusalOfKind
+refusalOfEntry-not v e = firstOf-not _ _ (terms-not (v.market.step) (e .price) (e .shares)) (firstOf-not _ _ (codes-not e) (place-not v (e .id)))
 
 refusalOfKind-not : (v : Venue) (e : Event) → Refused (refusalOfKind v e)
 unfolding refusalOfKind
 refusalOfKind-not v (entry e) = refusalOfEntry-not v e
-refusalOfKind-not v (cancel i) = refuseUnless-not _ _ none (λ t. (λ z. omega arith, omega arith, omega arith)) tt
-refusalOfKind-not v (bid b) = refuseUnless-not _ _ none (λ t. (λ z. omega arith, omega arith, omega arith)) tt
-refusalOfKind-not v (tape p) = refuseUnless-not _ _ none (λ t. (λ z. omega arith, omega arith, omega arith)) tt
-refusalOfKind-not v (dayEnd c) = refuseUnless-not _ _ none (λ t. (λ z. omega arith, omega arith, omega arith)) tt
+refusalOfKind-not v (cancel i) = refuseUnless-other _ 8 none tt tt
+refusalOfKind-not v (bid b) = refuseUnless-other _ 3 none tt tt
+refusalOfKind-not v (tape p) = refuseUnless-other _ 3 none tt tt
+refusalOfKind-not v (dayEnd c) = refuseUnless-other _ 3 none tt tt
 
 refusal-not : (v : Venue) (e : Event) (n : ℕ) → T (sound v) → Refused (refusal v e n)
 unfolding refusal
 refusal-not v e n s =
-    refuseUnless-not _ _ _ (λ t. absurd (T-not (sound v) t s)) (refuseUnless-not _ _ _ (λ t. (λ z. omega arith, omega arith, omega arith)) (refuseUnless-not _ _ _ (λ t. (λ z. omega arith, omega arith, omega arith)) (refusalOfKind-not v e)))
+    refuseUnless-not _ _ _ (λ t. absurd (T-not (sound v) t s)) (refuseUnless-other _ 1 _ tt (refuseUnless-other _ 2 _ tt (refusalOfKind-not v e)))
 
 answer-not : (x : Option ℕ) (v : Venue) (e : Event) (n : ℕ) → Refused x → (stepUnless x v e) .answer ≡ refuses n → OfSound n
 unfolding stepUnless

@@ -34,7 +34,6 @@ use Rattle.engine.specs.rules.Working.{isMarket, limitOf, followsBid, li
 use Rattle.engine.specs.rules.Pass.{moveDown, slideOnce, slideDown, moveOf, atNewPrice, Effect, afterMove, passOne, passOver}
 use Rattle.engine.specs.rules.Venue.{Venue, thePass, entering, effectOfEntry, effectOfCancel, effectOfDayEnd, effectOf, lastIdAfter}
 use Rattle.engine.specs.rules.Sound.{mostOrders, mostEvents, venueConditions, sound}
-use Rattle.engine.specs.rules.Refusals.{entryCodes, codesInRange}
 use Rattle.book.proofs.definitions.OrderConditionLaws.{FieldsSound, MayWork, MayRest, market-allowed, mayWork-reduced, mayRest-later, order-mayRest, mayRest-order}
 use Rattle.engine.proofs.refinement.RefusalLaws.{Allowed}
 use Rattle.engine.proofs.demand3.MarketLaws.{restricted-mark, HasPermitted}
@@ -278,9 +277,9 @@ module _ (m : Market) (mark price : ℕ) where
   follows-allowed = market-allowed (followsBid m mark price) mark (limitOf mark price) follows-short
 
 pub orderOf-sound : (v : Venue) (e : Entry) → Allowed v (entry e) → SoundVenue v → SoundWork (v.market.step) (e .id) (v .lastStamp + 1) (orderOf (v .market) (v .lastStamp + 1) e) (v .orders)
-unfolding orderOf codesInRange
+unfolding orderOf
 orderOf-sound v e f g =
-    let c = conj-T (entryCodes e) (f .codes) in
+    let c = f .codes in
     let m = v .market in
     let t = f .terms in
     let p = f .place in
@@ -289,7 +288,7 @@ orderOf-sound v e f g =
       room = p .room;
       works =
           record {
-            fields = record { mark = leb→le _ _ (c .0); limit = t .limit; show = leb→le _ _ (c .1 .0); life = life-code m (e .mark) (e .price) (e .life) (leb→le _ _ (c .1 .1 .0)); slide = c .1 .1 .1 .0; entryBid = g .market .bid; market = follows-allowed m (e .mark) (e .price) };
+            fields = record { mark = c .mark; limit = t .limit; show = c .show; life = life-code m (e .mark) (e .price) (e .life) (c .life); slide = c .slide; entryBid = g .market .bid; market = follows-allowed m (e .mark) (e .price) };
             id = omega arith;
             first = omega arith;
             last = omega arith;

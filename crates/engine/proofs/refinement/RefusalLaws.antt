@@ -5,18 +5,18 @@ use mathlib.Core.Logic.{_⊎_, inl, inr}
 use mathlib.Core.Option.{Option, none, some}
 use lib.Dec.{T, leb, leb→le, T-not}
 use lib.ListN.{length}
-use Rattle.numbers.proofs.TestLaws.{by-test, or-T, conj-T}
+use Rattle.numbers.proofs.TestLaws.{by-test, or-T, conj-T, T-and}
 use Rattle.prices.specs.Prices.{isStep, legal, isBid}
 use Rattle.prices.proofs.PriceLaws.{highest-legal, one-legal}
 use Rattle.book.specs.rules.Orders.{find}
-use Rattle.book.specs.rules.Sound.{mostShares}
+use Rattle.book.specs.rules.Sound.{mostShares, slideAllowed}
 use Rattle.engine.specs.declared.Entry.{Entry}
 use Rattle.engine.specs.declared.Event.{Event}
 use Rattle.engine.specs.declared.Event.the-variants.{Entry as entry, Cancel as cancel, Bid as bid, Tape as tape, DayEnd as dayEnd}
 use Rattle.engine.specs.rules.Working.{isMarket, limitOf}
 use Rattle.engine.specs.rules.Venue.{Venue}
 use Rattle.engine.specs.rules.Sound.{mostOrders, mostEvents, venueConditions, sound}
-use Rattle.engine.specs.rules.Refusals.{refuseUnless, firstOf, codesInRange, refusalOfTerms, refusalOfCodes, refusalOfPlace, rests, refusalOfKind, leastBuffer, refusal}
+use Rattle.engine.specs.rules.Refusals.{refuseUnless, firstOf, refusalOfTerms, refusalOfCodes, refusalOfPlace, rests, refusalOfKind, leastBuffer, refusal}
 
 -- the step of a sound record is 50 or 100
 pub sound-step : (v : Venue) → T (sound v) → T (isStep (v.market.step))
@@ -27,13 +27,17 @@ sound-step v t = conj-T (venueConditions v) t .1 .1 .1 .1 .0
 abbrev pub TermsAllowed : ℕ → Entry → Type 0
 TermsAllowed step e = record { limit : T (legal step (limitOf (e .mark) (e .price))); least : 1 ≤ e.shares; most : e.shares ≤ mostShares }
 
+-- what those of its codes leave
+abbrev pub CodesAllowed : Entry → Type 0
+CodesAllowed e = record { mark : e.mark ≤ 3; show : e.show ≤ 1; life : e.life ≤ 1; slide : T (slideAllowed (e .mark) (e .slide)) }
+
 -- what those of its place leave
 abbrev pub PlaceAllowed : Venue → ℕ → Type 0
 PlaceAllowed v id = record { newId : v.lastId < id; room : length (v .orders) < mostOrders }
 
 -- what the refusals of its kind leave of an event
 abbrev pub Allowed : Venue → Event → Type 0
-Allowed v (entry e) = record { terms : TermsAllowed (v.market.step) e; codes : T (codesInRange e); place : PlaceAllowed v (e .id) }
+Allowed v (entry e) = record { terms : TermsAllowed (v.market.step) e; codes : CodesAllowed e; place : PlaceAllowed v (e .id) }
 Allowed v (cancel i) = T (rests (find i (v .orders)))
 Allowed v (bid b) = T (isBid (v.market.step) b)
 Allowed v (tape p) = T (legal (v.market.step) p)
@@ -79,14 +83,19 @@ unfolding refusalOfTerms
 refusalOfTerms-known s is e =
     refuseUnless-known _ _ _ _ (λ p. refuseUnless-known _ (leb 1 (e .shares)) _ _ (λ a. refuseUnless-known _ (leb (e .shares) mostShares) _ none (λ b. record { limit = limit-legal s is (e .mark) (e .price) p; least = leb→le _ _ a; most = leb→le _ _ b })))
 
+refusalOfCodes-known : (e : Entry) → Unless (refusalOfCodes e) (CodesAllowed e)
+unfolding refusalOfCodes
+refusalOfCodes-known e =
+    refuseUnless-known _ _ _ _ (λ m. refuseUnless-known _ _ _ _ (λ s. refuseUnless-known _ _ _ _ (λ l. refuseUnless-known _ (leb (e .slide) 3) _ _ (λ a. refuseUnless-known _ _ _ none (λ b. record { mark = leb→le _ _ m; show = leb→le _ _ s; life = leb→le _ _ l; slide = T-and (leb (e .slide) 3) _ a b })))))
+
 refusalOfPlace-known : (v : Venue) (id : ℕ) → Unless (refusalOfPlace v id) (PlaceAllowed v id)
 unfolding refusalOfPlace
 refusalOfPlace-known v id = refuseUnless-known _ _ _ _ (λ i. refuseUnless-known _ _ _ none (λ r. record { newId = leb→le _ _ i; room = leb→le _ _ r }))
 
 refusalOfEntry-known : (v : Venue) → T (isStep (v.market.step)) → (e : Entry) → Unless (refusalOfKind v (entry e)) (Allowed v (entry e))
-unfolding refusalOfKind refusalOfCodes
+unfolding refusalOfKind
 refusalOfEntry-known v is e =
-    firstOf-known _ _ _ _ (refusalOfTerms-known (v.market.step) is e) (λ t. firstOf-known (T (codesInRange e)) _ _ _ (refuseUnless-known _ _ _ none (λ c. c)) (λ c. unless-map _ _ (λ p. record { terms = t; codes = c; place = p }) (refusalOfPlace v (e .id)) (refusalOfPlace-known v (e .id))))
+    firstOf-known _ _ _ _ (refusalOfTerms-known (v.market.step) is e) (λ t. firstOf-known _ _ _ _ (refusalOfCodes-known e) (λ c. unless-map _ _ (λ p. record { terms = t; codes = c; place = p }) (refusalOfPlace v (e .id)) (refusalOfPlace-known v (e .id))))
 
 pub refusalOfKind-known : (v : Venue) → T (isStep (v.market.step)) → (e : Event) → Unless (refusalOfKind v e) (Allowed v e)
 unfolding refusalOfKind
