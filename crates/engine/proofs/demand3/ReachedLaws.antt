@@ -5,9 +5,9 @@ use mathlib.Core.Path.{_≡_, refl, subst}
 use mathlib.Core.Bool.{Bool, true, false, not, _&&_}
 use mathlib.Core.Option.{Option, none, some}
 use mathlib.Core.List.{List, [], _∷_}
-use lib.Dec.{T, T-not, leb, ltb, eqb}
+use lib.Dec.{T, T-not, leb, ltb, eqb, leb→le}
 use Rattle.numbers.specs.Answers.{refuses, gives}
-use Rattle.numbers.proofs.TestLaws.{tests}
+use Rattle.numbers.proofs.TestLaws.{and-T}
 use Rattle.prices.specs.Prices.{isStep, legal}
 use Rattle.engine.specs.declared.Entry.{Entry}
 use Rattle.engine.specs.declared.Event.{Event}
@@ -73,7 +73,10 @@ abbrev other : ℕ → Bool
 other n = not (eqb n 16) && (leb 1 n && ltb n 128)
 
 refuseUnless-other : (b : Bool) (n : ℕ) (later : Option ℕ) → T (other n) → Refused later → Refused (refuseUnless b n later)
-refuseUnless-other b n later h = refuseUnless-not b n later (λ t. (λ z. omega (tests, h, z), omega (tests, h), omega (tests, h)))
+refuseUnless-other b n later h =
+    let a = and-T (not (eqb n 16)) _ h in
+    let l = and-T (leb 1 n) _ (a .1) in
+    refuseUnless-not b n later (λ t. (λ z. subst (λ (x : ℕ). T (not (eqb x 16))) z (a .0), leb→le _ _ (l .0), leb→le _ _ (l .1)))
 
 firstOf-not : (r later : Option ℕ) → Refused r → Refused later → Refused (firstOf r later)
 unfolding firstOf

@@ -1,9 +1,11 @@
 -- `entry_refusal` by its three parts, in their order. Assumes nothing.
-use mathlib.Core.Path.{sym, ap, _∙_}
-use Rattle.numbers.proofs.TestLaws.{not-yes, not-no}
-use Rattle.engine.specs.rules.Refusals.{refusalOfCodes, refusalOfKind}
+use mathlib.Core.Path.{_≡_, sym, ap, _∙_}
+use mathlib.Core.Option.{none}
+use Rattle.engine.specs.declared.Entry.{Entry}
+use Rattle.engine.specs.rules.Refusals.{refusalOfTerms, refusalOfCodes, refusalOfKind}
+use Rattle.engine.specs.rules.Layout.{venueOf}
 use Rattle.engine.specs.rules.Answers.{refusedWith}
-use Rattle.engine.proofs.refinement.RefuseLaws.{refuse-yes, refuse-no, first-given, first-none}
+use Rattle.engine.proofs.refinement.RefuseLaws.{first-given, first-none}
 use borrow.Author.Needs.{needs}
 use Rattle.engine.proofs.refuse.entry_refusal.Statement.{statement}
 use Rattle.engine.proofs.refuse.entry_refusal.Tie as tie
@@ -17,29 +19,44 @@ enum-known-refusal c = search needs
 enum-told : tie.Need-enum-told
 enum-told c = search needs
 
-codes-in-range-requires : tie.Need-codes-in-range-requires
-codes-in-range-requires c κs = search needs
+codes-refusal-requires : tie.Need-codes-refusal-requires
+codes-refusal-requires c κs = search needs
 
-returns : tie.Need-returns
-unfolding refusalOfKind refusalOfCodes
-returns c =
-    let t = c .before .before in
-    let codes = c .before .codes-in-range in
-    sym (first-none _ (sym (t .before .before .terms-refusal .ensures) ∙ ap refusedWith (t .enum-told .given .1)) ∙ first-given _ (refuse-no _ _ _ (sym (codes .ensures) ∙ not-yes (codes .result) (c .if1 .taken))))
+enum-known-refusal-2 : tie.Need-enum-known-refusal-2
+enum-known-refusal-2 c = search needs
+
+enum-told-2 : tie.Need-enum-told-2
+enum-told-2 c = search needs
 
 place-refusal-requires : tie.Need-place-refusal-requires
 place-refusal-requires c κs = search needs
 
+-- what holds where the next part is asked
+
+abbrev lent : tie.After-enum-told → Entry
+lent c = c .before .before .before .before .args .e
+
+terms : (c : tie.After-enum-told) → refusalOfTerms (venueOf (c .before .before .before .before .args .w .now) .market .step) (lent c .price) (lent c .shares) ≡ none
+terms c = sym (c .before .before .terms-refusal .ensures) ∙ ap refusedWith (c .enum-told .given .1)
+
+codes : (c : tie.After-enum-told2) → refusalOfCodes (lent (c .before .before .before)) ≡ none
+codes c = sym (c .before .before .codes-refusal .ensures) ∙ ap refusedWith (c .enum-told2 .given .1)
+
+returns : tie.Need-returns
+unfolding refusalOfKind
+returns c = sym (first-given _ (sym (c .before .before .before .terms-refusal .ensures) ∙ ap refusedWith (c .before .refusal .given .1)))
+
 returns-2 : tie.Need-returns-2
 unfolding refusalOfKind
-returns-2 c = sym (first-given _ (sym (c .before .before .before .terms-refusal .ensures) ∙ ap refusedWith (c .before .refusal .given .1)))
+returns-2 c =
+    let s = c .before .before .before in
+    sym (first-none _ (terms (s .before)) ∙ first-given _ (sym (s .codes-refusal .ensures) ∙ ap refusedWith (c .before .refusal2 .given .1)))
 
 returns-3 : tie.Need-returns-3
-unfolding refusalOfKind refusalOfCodes
+unfolding refusalOfKind
 returns-3 c =
-    let t = c .before .before .before in
-    let codes = c .before .before .codes-in-range in
-    sym (first-none _ (sym (t .before .before .terms-refusal .ensures) ∙ ap refusedWith (t .enum-told .given .1)) ∙ first-none _ (refuse-yes _ _ _ (sym (codes .ensures) ∙ not-no (codes .result) (c .before .if1 .left))) ∙ sym (c .place-refusal .ensures))
+    let s = c .before in
+    sym (first-none _ (terms (s .before .before .before)) ∙ first-none _ (codes s) ∙ sym (c .place-refusal .ensures))
 
 pub entry-refusal-spec : {M : Type 1} → statement M
 entry-refusal-spec =
@@ -48,8 +65,10 @@ entry-refusal-spec =
     terms-refusal-requires
     enum-known-refusal
     enum-told
-    codes-in-range-requires
-    returns
+    codes-refusal-requires
+    enum-known-refusal-2
+    enum-told-2
     place-refusal-requires
+    returns
     returns-2
     returns-3)
