@@ -1,3 +1,4 @@
 -- What is claimed of document 02's requests.
 pub mod MarketOrderLaws
 pub mod HalfCentLaws
+pub mod WhichCodeLaws

@@ -7,3 +7,4 @@ pub mod Examples
 pub mod Calls
 pub mod MarketOrders
 pub mod HalfCents
+pub mod WhichCode

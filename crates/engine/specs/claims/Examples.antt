@@ -1,4 +1,4 @@
--- Document 01, "Twelve sums, and one day", a day of market orders and one at a step of 50, as statements about the definitions. Assumes nothing.
+-- Document 01, "Twelve sums, and one day", a day of market orders, one at a step of 50 and entries with bad codes, as statements about the definitions. Assumes nothing.
 use Prim.Native.Nat.{ℕ}
 use mathlib.Core.Path.{_≡_}
 use mathlib.Core.Bool.{Bool, not}
@@ -147,6 +147,22 @@ pub record Played : Type 0 where
   -- with no bid an order with slide once isn't used up: it goes to its entry bid when a bid comes back
   pub onceKept : lastAnswerTo (restrictedDay (entryOf 1 2 0 5 1 0 1 ∷ bid 0 ∷ bid 90_500 ∷ [])) ≡ gives (repriced 1 91_000 2 ∷ [])
   pub halfCentDay : answersAt 50 halfCentEvents ≡ halfCentAnswers
+
+-- entries of which several fields are bad (No. 3), and the refusal of the one that is looked for first: codes (mark, show, life, slide), then an id, a price
+-- and shares beside them
+abbrev pub codesOf : ℕ → ℕ → ℕ → ℕ → Event
+codesOf mark show life slide = entryOf 1 mark 90_000 100 show life slide
+
+abbrev pub badEntries : List Event
+badEntries =
+    codesOf 4 2 2 9 ∷ codesOf 0 2 2 9 ∷ codesOf 0 1 2 9 ∷ codesOf 0 1 1 9 ∷ codesOf 0 1 1 1 ∷ codesOf 3 1 1 3 ∷ codesOf 2 1 1 4
+    ∷ entryOf 0 2 90_000 100 1 1 3 ∷ entryOf 1 9 90_001 100 1 1 3 ∷ entryOf 1 9 90_000 0 1 1 3 ∷ []
+
+abbrev pub firstBad : List ℕ
+firstBad = 18 ∷ 5 ∷ 5 ∷ 19 ∷ 20 ∷ 20 ∷ 19 ∷ 6 ∷ 3 ∷ 4 ∷ []
+
+abbrev pub CodesInOrder : Type 0
+CodesInOrder = All (λ (s : ℕ). answersAt s badEntries ≡ map refuses firstBad) (100 ∷ 50 ∷ [])
 
 -- other steps than 50 and 100 (No. 2), beside a close, a bid and a price that are refused at every step: "refused with 17, before the close or price is looked
 -- at"; in a venue record whose close is legal by itself "it is a broken condition"

@@ -1,0 +1,122 @@
+-- No. 3: with 18, 19 and 20 read as 5, every entry is answered as before. Assumes nothing.
+use Prim.Native.Nat.{ℕ}
+use mathlib.Core.Path.{_≡_, refl, ap, _∙_}
+use mathlib.Core.Bool.{Bool, true, false, _&&_}
+use mathlib.Core.List.{List, [], _∷_}
+use mathlib.Core.Option.{Option, none, some}
+use lib.ListN.{length}
+use Rattle.numbers.specs.Tests.{pick, conj}
+use Rattle.numbers.specs.Answers.{Outcome, gives, refuses}
+use Rattle.book.specs.rules.Words.{isBook}
+use Rattle.engine.specs.declared.Entry.{Entry}
+use Rattle.engine.specs.declared.Event.{Event}
+use Rattle.engine.specs.declared.Event.the-variants.{Entry as entry}
+use Rattle.engine.specs.rules.Reports.{Report}
+use Rattle.engine.specs.rules.Venue.{Venue}
+use Rattle.engine.specs.rules.Refusals.{refuseUnless, firstOf, refusalOfTerms, refusalOfCodes, refusalOfPlace, refusalOfKind, refusal}
+use Rattle.engine.specs.rules.Run.{Step, stepUnless, step}
+use Rattle.engine.specs.rules.Answers.{countOf, bufferAfter}
+use Rattle.engine.specs.rules.Layout.{venueOf, stepIn}
+use Rattle.engine.specs.claims.WhichCode.{codesBefore, refusalBefore, stepBefore, readAs5, refusalRead, answerRead, CodesAsBefore, stepInBefore, CallsAsBefore}
+
+-- of the refusals
+
+read-later : (b : Bool) (n : ℕ) (later before : Option ℕ) → readAs5 n ≡ n → refusalRead later ≡ before → refusalRead (refuseUnless b n later) ≡ refuseUnless b n before
+unfolding refuseUnless
+read-later true n later before k h = h
+read-later false n later before k h = ap some k
+
+read-first : (r later : Option ℕ) → refusalRead (firstOf r later) ≡ firstOf (refusalRead r) (refusalRead later)
+unfolding firstOf
+read-first none later = refl
+read-first (some n) later = refl
+
+-- the five codes against the one test of before
+codes-chain : (mark show life slide on : Bool) → refusalRead (refuseUnless mark 18 (refuseUnless show 5 (refuseUnless life 5 (refuseUnless slide 19 (refuseUnless on 20 none))))) ≡ refuseUnless (conj (mark ∷ show ∷ life ∷ (slide && on) ∷ [])) 5 none
+unfolding refuseUnless pick
+codes-chain false show life slide on = refl
+codes-chain true false life slide on = refl
+codes-chain true true false slide on = refl
+codes-chain true true true false on = refl
+codes-chain true true true true false = refl
+codes-chain true true true true true = refl
+
+codes-read : (e : Entry) → refusalRead (refusalOfCodes e) ≡ codesBefore e
+unfolding refusalOfCodes
+codes-read e = codes-chain _ _ _ _ _
+
+terms-read : (s price shares : ℕ) → refusalRead (refusalOfTerms s price shares) ≡ refusalOfTerms s price shares
+unfolding refusalOfTerms pick
+terms-read s price shares = read-later _ 3 _ _ refl (read-later _ 4 _ _ refl (read-later _ 4 none none refl refl))
+
+place-read : (v : Venue) (id : ℕ) → refusalRead (refusalOfPlace v id) ≡ refusalOfPlace v id
+unfolding refusalOfPlace pick
+place-read v id = read-later _ 6 _ _ refl (read-later _ 7 none none refl refl)
+
+kind-read : (v : Venue) (e : Entry) → refusalRead (refusalOfKind v (entry e)) ≡ firstOf (refusalOfTerms (v.market.step) (e .price) (e .shares)) (firstOf (codesBefore e) (refusalOfPlace v (e .id)))
+unfolding refusalOfKind
+kind-read v e =
+    read-first (refusalOfTerms (v.market.step) (e .price) (e .shares)) _ ∙ rw (terms-read (v.market.step) (e .price) (e .shares), read-first (refusalOfCodes e) (refusalOfPlace v (e .id)), codes-read e, place-read v (e .id))
+
+refusal-read : (v : Venue) (e : Entry) (n : ℕ) → refusalRead (refusal v (entry e) n) ≡ refusalBefore v e n
+unfolding refusal pick
+refusal-read v e n = read-later _ 16 _ _ refl (read-later _ 1 _ _ refl (read-later _ 2 _ _ refl (kind-read v e)))
+
+-- of an event
+
+answer-read : (x : Option ℕ) (v : Venue) (e : Event) → answerRead (stepUnless x v e .answer) ≡ stepUnless (refusalRead x) v e .answer
+unfolding stepUnless
+answer-read none v e = refl
+answer-read (some n) v e = refl
+
+venue-read : (x : Option ℕ) (v : Venue) (e : Event) → stepUnless x v e .venue ≡ stepUnless (refusalRead x) v e .venue
+unfolding stepUnless
+venue-read none v e = refl
+venue-read (some n) v e = refl
+
+pub codes-as-before : CodesAsBefore
+unfolding step
+codes-as-before v e n =
+    let r = refusal-read v e n in
+    record {
+      refusal = r;
+      answer = answer-read (refusal v (entry e) n) v (entry e) ∙ ap (λ (x : Option ℕ). stepUnless x v (entry e) .answer) r;
+      venue = venue-read (refusal v (entry e) n) v (entry e) ∙ ap (λ (x : Option ℕ). stepUnless x v (entry e) .venue) r;
+    }
+
+-- of a call
+
+count-read : (x : Outcome (List Report)) → answerRead (countOf x) ≡ countOf (answerRead x)
+count-read (gives rs) = refl
+count-read (refuses n) = refl
+
+buffer-read : (b : List ℕ) (x : Outcome (List Report)) → bufferAfter b x ≡ bufferAfter b (answerRead x)
+buffer-read b (gives rs) = refl
+buffer-read b (refuses n) = refl
+
+-- words that are laid out as no venue are refused with 16, as before
+module _ (w : List ℕ) (e : Entry) (n : ℕ) where
+  abbrev broken : Step
+  broken = record { answer = refuses 16; venue = venueOf w }
+
+  abbrev SameStep : Step → Step → Type 0
+  SameStep s t = record { answer : answerRead (s .answer) ≡ t .answer; venue : s.venue ≡ t.venue }
+
+  chosen : (laid : Bool) → SameStep (pick laid (step (venueOf w) (entry e) n) broken) (pick laid (stepBefore (venueOf w) e n) broken)
+  unfolding pick
+  chosen true = let x = codes-as-before (venueOf w) e n in record { answer = x .answer; venue = x .venue }
+  chosen false = record { answer = refl; venue = refl }
+
+  called : SameStep (stepIn w (entry e) n) (stepInBefore w e n)
+  unfolding stepIn
+  called = chosen (isBook w)
+
+pub calls-as-before : CallsAsBefore
+calls-as-before w e b answer w′ b′ a =
+    let x = stepIn w (entry e) (length b) .answer in
+    let r = called w e (length b) in
+    record {
+      answers = ap answerRead (a .answers) ∙ count-read x ∙ ap countOf (r .answer);
+      buffer = a .buffer ∙ buffer-read b x ∙ ap (bufferAfter b) (r .answer);
+      venue = a .venue ∙ r .venue;
+    }

@@ -1,0 +1,71 @@
+-- Document 02, No. 3, which code was bad, as a claim: with 18, 19 and 20 read as 5, every entry is answered as before. The order in which the codes are
+-- looked for is checked in `Examples`. Assumes nothing.
+use Prim.Native.Nat.{ℕ}
+use mathlib.Core.Path.{_≡_}
+use mathlib.Core.Bool.{_||_}
+use mathlib.Core.List.{List, [], _∷_}
+use mathlib.Core.Option.{Option, none, some}
+use lib.Dec.{leb, ltb, eqb}
+use lib.ListN.{length}
+use Rattle.numbers.specs.Tests.{pick, conj}
+use Rattle.numbers.specs.Answers.{Outcome, gives, refuses}
+use Rattle.book.specs.rules.Sound.{slideAllowed}
+use Rattle.book.specs.rules.Words.{isBook}
+use Rattle.engine.specs.declared.Entry.{Entry}
+use Rattle.engine.specs.declared.Event.the-variants.{Entry as entry}
+use Rattle.engine.specs.rules.Venue.{Venue}
+use Rattle.engine.specs.rules.Sound.{mostEvents, sound}
+use Rattle.engine.specs.rules.Refusals.{refuseUnless, firstOf, refusalOfTerms, refusalOfPlace, leastBuffer, refusal}
+use Rattle.engine.specs.rules.Run.{Step, stepUnless, step}
+use Rattle.engine.specs.rules.Answers.{countOf, bufferAfter}
+use Rattle.engine.specs.rules.Layout.{venueOf}
+use Rattle.engine.specs.claims.Calls.{Applied}
+
+-- Before No. 3: "5 mark, show, life or slide"
+abbrev pub codesBefore : Entry → Option ℕ
+codesBefore e = refuseUnless (conj (leb (e .mark) 3 ∷ leb (e .show) 1 ∷ leb (e .life) 1 ∷ slideAllowed (e .mark) (e .slide) ∷ [])) 5 none
+
+-- the refusals of an entry, and what it does, with those in the place of the codes
+abbrev pub refusalBefore : Venue → Entry → ℕ → Option ℕ
+refusalBefore v e n =
+    refuseUnless (sound v) 16
+    (refuseUnless (leb leastBuffer n) 1
+    (refuseUnless (ltb (v .acceptedEvents) mostEvents) 2
+    (firstOf (refusalOfTerms (v.market.step) (e .price) (e .shares)) (firstOf (codesBefore e) (refusalOfPlace v (e .id))))))
+
+abbrev pub stepBefore : Venue → Entry → ℕ → Step
+stepBefore v e n = stepUnless (refusalBefore v e n) v (entry e)
+
+-- 18, 19 and 20 read as 5
+abbrev pub readAs5 : ℕ → ℕ
+readAs5 n = pick (eqb n 18 || (eqb n 19 || eqb n 20)) 5 n
+
+abbrev pub refusalRead : Option ℕ → Option ℕ
+refusalRead none = none
+refusalRead (some n) = some (readAs5 n)
+
+abbrev pub answerRead : {A : Type 0} → Outcome A → Outcome A
+answerRead (gives x) = gives x
+answerRead (refuses n) = refuses (readAs5 n)
+
+-- read so, every entry is refused as before: nothing is accepted or refused that wasn't; the reports and the venue are those of before
+pub record EntryAsBefore (v : Venue) (e : Entry) (n : ℕ) : Type 0 where
+  pub refusal : refusalRead (refusal v (entry e) n) ≡ refusalBefore v e n
+  pub answer : answerRead (step v (entry e) n .answer) ≡ stepBefore v e n .answer
+  pub venue : step v (entry e) n .venue ≡ stepBefore v e n .venue
+
+abbrev pub CodesAsBefore : Type 0
+CodesAsBefore = (v : Venue) (e : Entry) (n : ℕ) → EntryAsBefore v e n
+
+-- the same of every call of apply, on any words and any buffer
+abbrev pub stepInBefore : List ℕ → Entry → ℕ → Step
+stepInBefore w e n = pick (isBook w) (stepBefore (venueOf w) e n) (record { answer = refuses 16; venue = venueOf w })
+
+pub record CallAsBefore (w : List ℕ) (e : Entry) (b : List ℕ) (answer : Outcome ℕ) (w′ b′ : List ℕ) : Type 0 where
+  pub answers : answerRead answer ≡ countOf (stepInBefore w e (length b) .answer)
+  pub buffer : b′ ≡ bufferAfter b (stepInBefore w e (length b) .answer)
+  pub venue : venueOf w′ ≡ stepInBefore w e (length b) .venue
+
+abbrev pub CallsAsBefore : Type 0
+CallsAsBefore =
+    (w : List ℕ) (e : Entry) (b : List ℕ) (answer : Outcome ℕ) (w′ b′ : List ℕ) → Applied w (entry e) b answer w′ b′ → CallAsBefore w e b answer w′ b′
