@@ -65,7 +65,10 @@ uint32_t venue_open(uint32_t *words, size_t words_length, uint32_t step, uint32_
     2  the venue has accepted 16,777,215 events, the most it takes
     3  a price or a close that isn't legal, or a bid that isn't one, at the venue's step; the price 0 of an entry means market
     4  shares not 1 to 1,000,000
-    5  mark, show, life or slide out of range, or a slide with a mark other than short
+   18  the mark is above 3
+    5  the show is above 1, or else the life is
+   19  the slide is above 3, whatever the mark
+   20  a slide other than 0 with a mark other than 2, short
     6  the id isn't above that of the last accepted entry
     7  256 orders rest already
     8  no order rests under the id to cancel */
@@ -85,7 +88,7 @@ struct venue_progress {
 #define VENUE_REPORTS_FULL 2 /* fewer than VENUE_REPORT_BYTES bytes are left for reports */
 
 /* Plays the event records of a run one after another, from an offset on, each as venue_apply does. The bytes of the events stand one after another
-   at the front of the report buffer: of an accepted event its reports, which may be none; of a refused one two bytes, 0 and its refusal, 2 to 8. No
+   at the front of the report buffer: of an accepted event its reports, which may be none; of a refused one two bytes, 0 and its refusal, 2 to 8 or 18 to 20. No
    report begins with a byte 0. ends[i] is the offset behind the bytes of event i of the call, counted from 0; they begin at ends[i - 1], those of
    event 0 at 0. The answer is refusal * 65,536, or one of the three stops above, which are no refusals:
    16  the words aren't a venue. This is checked once, before all else; nothing is changed, progress neither

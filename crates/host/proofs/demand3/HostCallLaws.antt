@@ -10,6 +10,7 @@ use Rattle.numbers.proofs.TestLaws.{T-true, map-all}
 use Rattle.prices.specs.Prices.{isStep, legal}
 use Rattle.book.specs.rules.Words.{isBook}
 use Rattle.engine.specs.declared.Event.{Event}
+use Rattle.engine.specs.declared.Event.the-variants.{Entry as entry}
 use Rattle.engine.specs.rules.Venue.{opened}
 use Rattle.engine.specs.rules.Records.{recordAt}
 use Rattle.engine.specs.rules.Layout.{venueOf}
@@ -17,9 +18,10 @@ use Rattle.engine.specs.claims.Calls.{AppliedCall, Chain, none as noEvents, mor
 use Rattle.engine.proofs.bytes.RecordLaws.{record-unique}
 use Rattle.engine.proofs.demand3.CallLaws.{demand3-from, no-16-from, both}
 use Rattle.engine.proofs.requests.MarketOrderLaws.{market-shorts-stay-in-calls}
+use Rattle.engine.proofs.requests.WhichCodeLaws.{calls-as-before}
 use Rattle.host.specs.rules.Host.{hostAnswer, outcomeOf}
 use Rattle.host.specs.claims.Calls.{AnswerTold, EventApplied, RecordApplied}
-use Rattle.host.specs.claims.HostCalls.{ApplyCall, ApplyChain, none, more, EventCall, withEvent, eventCalls, appliedCall, AnswersTold, UnreadableRefused, EventsOfCalls, MarketShortsStayForHosts, Demand3OfHosts, NoHostGets16, EqualHostReports}
+use Rattle.host.specs.claims.HostCalls.{ApplyCall, ApplyChain, none, more, EventCall, withEvent, eventCalls, appliedCall, AnswersTold, UnreadableRefused, EventsOfCalls, MarketShortsStayForHosts, CallsAsBeforeForHosts, Demand3OfHosts, NoHostGets16, EqualHostReports}
 use Rattle.host.proofs.refinement.HostLaws.{outcome-told, answer-told, opened-fresh}
 
 -- the numbers
@@ -56,6 +58,11 @@ pub market-shorts-stay-for-hosts : MarketShortsStayForHosts
 market-shorts-stay-for-hosts w bytes b answer w′ b′ a r e =
     let x : EventApplied w (r .value) b answer w′ b′ = rw e at a in
     market-shorts-stay-in-calls w (r .value) b (outcomeOf answer) w′ b′ (x .applied)
+
+pub calls-as-before-for-hosts : CallsAsBeforeForHosts
+calls-as-before-for-hosts w bytes b answer w′ b′ a e end r =
+    let x : EventApplied w (entry e) b answer w′ b′ = rw r at a in
+    calls-as-before w e b (outcomeOf answer) w′ b′ (x .applied)
 
 pub demand3-of-hosts : Demand3OfHosts
 demand3-of-hosts w s close w₀ h cs w′ c =

@@ -11,13 +11,16 @@ use Rattle.numbers.specs.SevenBit.{IsByte}
 use Rattle.book.specs.declared.Order.{Order}
 use Rattle.book.specs.rules.Orders.{find}
 use Rattle.book.specs.rules.Words.{resting}
+use Rattle.engine.specs.declared.Entry.{Entry}
 use Rattle.engine.specs.declared.Event.{Event}
+use Rattle.engine.specs.declared.Event.the-variants.{Entry as entry}
 use Rattle.engine.specs.rules.Market.{marketAfter}
 use Rattle.engine.specs.rules.Refusals.{leastBuffer}
 use Rattle.engine.specs.rules.Records.{recordAt}
 use Rattle.engine.specs.rules.Layout.{venueOf}
 use Rattle.engine.specs.claims.Calls.{AppliedCall, Chain, LawfulCalls, reportsGot}
 use Rattle.engine.specs.claims.MarketOrders.{runsPass}
+use Rattle.engine.specs.claims.WhichCode.{CallAsBefore}
 use Rattle.host.specs.rules.Host.{hostAnswer, outcomeOf}
 use Rattle.host.specs.claims.Calls.{HostOpened, AnswerTold, RecordRefused, HostApplied}
 
@@ -77,6 +80,12 @@ MarketShortsStayForHosts =
     (w bytes b : List ℕ) (answer : ℕ) (w′ b′ : List ℕ) → HostApplied w bytes b answer w′ b′ →
     (r : Read Event) → recordAt bytes 0 ≡ gives r → T (runsPass (r .value)) → (marketAfter (r .value) (venueOf w .market)) .bid ≡ 0 →
     (i : ℕ) (o : Order) → find i (resting w) ≡ some o → T (o .market) → find i (resting w′) ≡ some o
+
+-- No. 3: with 18, 19 and 20 read as 5, a call whose record reads as an entry is answered as before, and leaves the report bytes and the venue of before
+abbrev pub CallsAsBeforeForHosts : Type 0
+CallsAsBeforeForHosts =
+    (w bytes b : List ℕ) (answer : ℕ) (w′ b′ : List ℕ) → HostApplied w bytes b answer w′ b′ →
+    (e : Entry) (end : ℕ) → recordAt bytes 0 ≡ gives (record { value = entry e; end = end }) → CallAsBefore w e b (outcomeOf answer) w′ b′
 
 -- From the words that venue_open leaves with the answer 0; the run may be longer than a venue
 
