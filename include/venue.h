@@ -66,7 +66,7 @@ uint32_t venue_open(uint32_t *words, size_t words_length, uint32_t step, uint32_
     3  a price or a close that isn't legal, or a bid that isn't one, at the venue's step; the price 0 of an entry means market
     4  shares not 1 to 1,000,000
    18  the mark is above 3
-    5  the show is above 1, or else the life is
+    5  the show or the life is above 1
    19  the slide is above 3, whatever the mark
    20  a slide other than 0 with a mark other than 2, short
     6  the id isn't above that of the last accepted entry
