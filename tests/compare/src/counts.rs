@@ -16,7 +16,7 @@ const MOST_PRINTED: u64 = 10;
 #[derive(Default)]
 pub struct Answers {
     accepted: u64,
-    refused: [u64; 18],
+    refused: [u64; 21],
 }
 
 impl Answers {
