@@ -14,6 +14,7 @@ mod check;
 mod code_days;
 #[cfg(feature = "engine")]
 mod compare;
+mod conditions;
 mod counts;
 #[cfg(test)]
 mod days;
@@ -36,6 +37,8 @@ mod odd;
 mod output;
 mod price_rules;
 mod program;
+mod reached;
+mod refused_entries;
 #[cfg(feature = "engine")]
 mod replay;
 mod rng;
