@@ -6,19 +6,17 @@ use crate::model::{Entry, Event, Refusal, Report, Venue};
 use crate::price_rules::is_legal;
 use crate::sessions::{ensure, Fault};
 
-/// What an entry may break in a venue.
+/// Whether an entry breaks a condition in a venue.
+type Breaks = fn(&Entry, &Venue) -> bool;
+
 #[derive(Clone, Copy)]
 pub struct Condition {
     pub refusal: u32,
     pub name: &'static str,
-    breaks: fn(&Entry, &Venue) -> bool,
+    breaks: Breaks,
 }
 
-const fn condition(
-    refusal: u32,
-    name: &'static str,
-    breaks: fn(&Entry, &Venue) -> bool,
-) -> Condition {
+const fn condition(refusal: u32, name: &'static str, breaks: Breaks) -> Condition {
     Condition {
         refusal,
         name,
@@ -26,6 +24,9 @@ const fn condition(
     }
 }
 
+/// "Entry then: 3 price not legal; 4 shares; 5 mark, show, life or slide; 6 id not
+/// above the last accepted id (0 never is); 7 if 256 orders rest." In the place of
+/// the 5, "in the order mark, show, life, slide code, slide on the wrong mark".
 pub const CONDITIONS: [Condition; 9] = [
     condition(3, "price", |entry, venue| {
         entry.price != 0 && !is_legal(venue.step, entry.price)
@@ -193,7 +194,7 @@ mod tests {
     /// Codes up to one more or less, narrower than 32 bits or signed; and slides on
     /// too many marks or on too few.
     fn other_codes() -> Vec<Wrong> {
-        let wrong: [(usize, fn(&Entry, &Venue) -> bool); 24] = [
+        let wrong: [(usize, Breaks); 24] = [
             (2, |entry, _| entry.mark > 4),
             (2, |entry, _| entry.mark > 2),
             (2, |entry, _| entry.mark as u8 > 3),

@@ -1,7 +1,7 @@
 //! What a run counts of refused entries, so that its end shows that document 02's
 //! No. 3 was reached: the condition that was answered, and what else the entry
 //! breaks. Where each pair was reached, any other order of the conditions would have
-//! been seen, but for show and life, which have the same.
+//! been seen, but for show and life, which share a refusal.
 
 use crate::conditions::{broken, CONDITIONS};
 use crate::model::{Entry, Event, Refusal, Venue, CENT};
@@ -43,7 +43,13 @@ impl AtStep {
         if others.peek().is_none() {
             self.pairs[first][first] += 1;
         }
-        others.for_each(|other| self.pairs[first][other] += 1);
+        for other in others {
+            self.pairs[first][other] += 1;
+            if answers(&other) {
+                // Show and life: what came between them would not be seen.
+                break;
+            }
+        }
         match first {
             MARK..=SLIDE => self.take_code(first - MARK, entry),
             WRONG_MARK => self.take_slide(entry),
@@ -102,7 +108,8 @@ fn named(counts: [u64; 3], names: [&'static str; 3]) -> Vec<Named> {
 }
 
 impl RefusedEntries {
-    /// Takes an event that the venue refused with something other than 16.
+    /// Takes a refused event; what comes before the conditions of an entry isn't
+    /// counted.
     pub fn refuse(&mut self, venue: &Venue, event: &Event, refusal: Refusal) {
         let Event::Entry(entry) = event else {
             return;
