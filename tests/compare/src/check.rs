@@ -3,6 +3,7 @@
 use crate::account::{Account, Resting};
 use crate::by_cents;
 use crate::by_limits;
+use crate::conditions;
 use crate::counts::{Counts, Lent};
 use crate::document_01;
 use crate::model::{
@@ -112,6 +113,7 @@ impl Checked {
         counts: &mut Counts,
     ) -> Result<(), Fault> {
         let (before, after) = (&self.before, &self.venue);
+        conditions::check(before, event, answer)?;
         by_limits::check(before, event, buffer, answer, after)?;
         let by_document_01 = before.step == CENT;
         if by_document_01 {

@@ -5,6 +5,7 @@ use crate::market_orders::MarketOrders;
 #[cfg(feature = "engine")]
 use crate::model::{is_step, Stop};
 use crate::model::{Event, Refusal, Report, Venue};
+use crate::refused_entries::RefusedEntries;
 use crate::rng::Rng;
 use crate::streams::{Kind, Session, MOST_BUFFER};
 use std::fmt;
@@ -12,11 +13,14 @@ use std::fmt;
 /// How many differences are printed in full.
 const MOST_PRINTED: u64 = 10;
 
+/// What an event may be refused with, its record included.
+const OF_EVENTS: [usize; 16] = [1, 2, 3, 4, 5, 6, 7, 8, 9, 10, 11, 12, 16, 18, 19, 20];
+
 /// How often a call was accepted, and how often refused with which number.
 #[derive(Default)]
 pub struct Answers {
     accepted: u64,
-    refused: [u64; 18],
+    refused: [u64; 21],
 }
 
 impl Answers {
@@ -51,6 +55,7 @@ pub struct Counts {
     most_bytes: usize,
     market_orders: MarketOrders,
     pub half_cents: HalfCents,
+    refused_entries: RefusedEntries,
     #[cfg(feature = "engine")]
     host: HostCounts,
 }
@@ -102,6 +107,7 @@ impl Counts {
         self.answers.add::<()>(Err(refusal));
         self.market_orders.refuse(event, refusal);
         self.half_cents.refuse(venue.step, event, refusal);
+        self.refused_entries.refuse(venue, event, refusal);
     }
 
     /// An accepted event, with the venue before it, the byte count of its
@@ -118,6 +124,17 @@ impl Counts {
                 _ => {}
             }
         }
+    }
+
+    /// The refusals of events that never came.
+    fn missing(&self) -> Vec<usize> {
+        let never = |number: &usize| self.answers.refused[*number] == 0;
+        OF_EVENTS.into_iter().filter(never).collect()
+    }
+
+    /// Whether nothing differs and every refusal of an event came.
+    pub fn are_well(&self) -> bool {
+        self.differences == 0 && self.missing().is_empty()
     }
 
     pub fn differ(&mut self, seed: u64, event: u64, what: &str) {
@@ -262,9 +279,14 @@ impl fmt::Display for Counts {
         writeln!(f, "{}", self.answers)?;
         writeln!(f, "{}", self.market_orders)?;
         writeln!(f, "{}", self.half_cents)?;
+        writeln!(f, "{}", self.refused_entries)?;
         #[cfg(feature = "engine")]
         if self.host.copies.accepted > 0 {
             write!(f, "{}", self.host)?;
+        }
+        let missing = self.missing();
+        if !missing.is_empty() {
+            writeln!(f, "refusals of events that NEVER CAME: {missing:?}")?;
         }
         write!(f, "differences {}", self.differences)
     }

@@ -2,6 +2,7 @@
 //! No. 2 was reached.
 
 use crate::model::{is_legal, Event, Refusal, Report, Venue, CENT, DOLLAR, HALF_CENT, HIGHEST};
+use crate::reached::{self, Line, Named};
 use crate::streams::Session;
 use std::fmt;
 
@@ -48,9 +49,6 @@ type ByKind = [u64; 4];
 /// Of a record's prices by their places: close, bid; limits, prices and entry bids
 /// of orders.
 type ByPlace = [u64; 5];
-
-/// A count and its name.
-type Named = (u64, &'static str);
 
 fn by_kind(counts: &ByKind) -> Vec<Named> {
     let kinds = ["entries", "bids", "tape prices", "closes"];
@@ -318,7 +316,7 @@ impl HalfCents {
     }
 
     /// All counts in lines, with their names.
-    fn lines(&self) -> Vec<(&'static str, Vec<Named>)> {
+    fn lines(&self) -> Vec<Line<&'static str>> {
         let mut lines = Vec::from([
             ("sessions", self.sessions.steps()),
             ("records", self.sessions.records()),
@@ -344,23 +342,7 @@ impl HalfCents {
 }
 
 impl fmt::Display for HalfCents {
-    /// A line a group, and at the end the names of all that is 0.
     fn fmt(&self, f: &mut fmt::Formatter) -> fmt::Result {
-        write!(f, "half-cent stocks:")?;
-        let mut never = Vec::new();
-        for (group, counts) in self.lines() {
-            let words: Vec<String> = counts
-                .iter()
-                .map(|(count, name)| format!("{count} {name}"))
-                .collect();
-            write!(f, "\n  {group}: {}", words.join(", "))?;
-            let zeros = counts.iter().filter(|(count, _)| *count == 0);
-            never.extend(zeros.map(|(_, name)| format!("{group}: {name}")));
-        }
-        if never.is_empty() {
-            write!(f, "\n  all of these were reached")
-        } else {
-            write!(f, "\n  NEVER REACHED: {}", never.join("; "))
-        }
+        reached::write(f, "half-cent stocks", &self.lines())
     }
 }

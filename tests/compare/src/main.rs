@@ -1,4 +1,4 @@
-//! A second implementation of the venue of document 01 and of No. 1 and No. 2 of
+//! A second implementation of the venue of document 01 and of No. 1 to No. 3 of
 //! document 02, and its comparison with the proved engine. See README.md.
 
 mod account;
@@ -10,8 +10,11 @@ mod by_limits;
 #[cfg(feature = "engine")]
 mod caller;
 mod check;
+#[cfg(test)]
+mod code_days;
 #[cfg(feature = "engine")]
 mod compare;
+mod conditions;
 mod counts;
 #[cfg(test)]
 mod days;
@@ -34,6 +37,8 @@ mod odd;
 mod output;
 mod price_rules;
 mod program;
+mod reached;
+mod refused_entries;
 #[cfg(feature = "engine")]
 mod replay;
 mod rng;

@@ -1,4 +1,4 @@
-//! A plain implementation of document 01 and, of document 02, of No. 1 and No. 2,
+//! A plain implementation of document 01 and, of document 02, of No. 1 to No. 3,
 //! written from the papers and the readings alone. Comments in quotation marks are
 //! sentences of the papers, letters with numbers (A1, F1.3) are readings.
 
@@ -34,7 +34,7 @@ pub enum Refusal {
     Spent = 2,
     Price = 3,
     Shares = 4,
-    Code = 5,
+    ShowOrLife = 5,
     Id = 6,
     Full = 7,
     NotResting = 8,
@@ -47,6 +47,9 @@ pub enum Refusal {
     LongRun = 15,
     VenueRecord = 16,
     Step = 17,
+    Mark = 18,
+    SlideCode = 19,
+    SlideOnMark = 20,
 }
 
 impl Refusal {

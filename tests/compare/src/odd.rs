@@ -41,6 +41,25 @@ pub fn odd_number(rng: &mut Rng) -> u32 {
     rng.pick(&borders)
 }
 
+/// A code at or over a border; or one that a narrower number would take for such a
+/// code, or a signed one for a number below 0.
+pub fn odd_code(rng: &mut Rng) -> u32 {
+    let low = rng.up_to(4);
+    let any = rng.word();
+    rng.pick(&[
+        low,
+        low,
+        low,
+        low,
+        low,
+        256 + low,
+        65_536 + low,
+        (1 << 31) + low,
+        u32::MAX,
+        any,
+    ])
+}
+
 /// A price at a border of one of the steps, or any multiple of the smaller; and
 /// as often a number next to it, which may be legal or not.
 pub fn odd_price(rng: &mut Rng) -> u32 {

@@ -11,7 +11,7 @@ use crate::sessions::{ensure, Fault};
 
 /// "There legal prices are its multiples": between two prices of document 01 lies
 /// one more, 50 below the higher.
-fn is_legal(step: u32, price: u32) -> bool {
+pub fn is_legal(step: u32, price: u32) -> bool {
     let between = price > 10_000 && document_01::is_legal(price.saturating_add(50));
     document_01::is_legal(price) || (step == HALF_CENT && between)
 }

@@ -37,7 +37,8 @@ pub trait Examiner {
 const MOST_FAULTS: u64 = 1_000;
 
 /// Plays sessions until so many events are over, the rest of a session with a
-/// fault left out. Prints the counts and gives whether there was no fault.
+/// fault left out. Prints the counts and gives whether there was no fault and every
+/// refusal of an event came.
 pub fn run(seed: u64, events: u64, examiner: &mut impl Examiner) -> bool {
     let mut seeds = Rng::new(seed);
     let mut counts = Counts::default();
@@ -50,7 +51,7 @@ pub fn run(seed: u64, events: u64, examiner: &mut impl Examiner) -> bool {
         }
     }
     println!("{counts}");
-    counts.differences == 0
+    counts.are_well()
 }
 
 fn play(seed: u64, examiner: &mut impl Examiner, counts: &mut Counts) -> Result<(), Fault> {

@@ -6,9 +6,9 @@ use crate::ladder::Ladder;
 use crate::made_up::{made_up, sink_shorts, spoil_record};
 use crate::model::{
     read_record, write_number, write_record, Entry, Event, RecordCheck, Venue, CENT, DOLLAR,
-    HALF_CENT, LEAST_BUFFER, LONGEST_NUMBER, LOWEST, MOST_SHARES, SHORT,
+    HALF_CENT, LEAST_BUFFER, LONGEST_NUMBER, LOWEST, MOST_SHARES, PLACES, SHORT,
 };
-use crate::odd::{near_miss, odd_number};
+use crate::odd::{near_miss, odd_code, odd_number};
 use crate::rng::Rng;
 
 /// At which step and where a session trades, how far from there, and how often
@@ -169,10 +169,10 @@ impl Market {
 }
 
 /// A sound event with one field changed to something odd, its price to a number
-/// next to it, or all fields odd.
+/// next to it, some of its codes to odd ones, or all fields odd.
 fn nonsense(rng: &mut Rng, sound: Event, venue: &Venue) -> Event {
     let odd = odd_number(rng);
-    match (sound, rng.up_to(7)) {
+    match (sound, rng.up_to(9)) {
         (_, 0) => Event::Cancel { id: odd },
         (_, 1) => rng.pick(&[
             Event::Bid { price: odd },
@@ -188,7 +188,8 @@ fn nonsense(rng: &mut Rng, sound: Event, venue: &Venue) -> Event {
             life: odd_number(rng),
             slide: odd,
         }),
-        (sound, 6..) => miss(rng, sound),
+        (sound, 6..8) => miss(rng, sound),
+        (Event::Entry(entry), 8..) => Event::Entry(spoil_codes(rng, entry, odd, venue)),
         (Event::Entry(entry), _) => Event::Entry(spoil_entry(rng, entry, odd, venue)),
         (sound, _) => sound,
     }
@@ -229,6 +230,30 @@ fn spoil_entry(rng: &mut Rng, mut entry: Entry, odd: u32, venue: &Venue) -> Entr
             entry.mark ^= 1;
             entry.slide = rng.up_to(4);
         }
+    }
+    entry
+}
+
+/// Changes some of the codes, so that several may be bad at once, and at times
+/// what is looked at before them or after.
+fn spoil_codes(rng: &mut Rng, mut entry: Entry, odd: u32, venue: &Venue) -> Entry {
+    let Entry {
+        mark,
+        show,
+        life,
+        slide,
+        ..
+    } = &mut entry;
+    for code in [mark, show, life, slide] {
+        if rng.one_in(3) {
+            *code = odd_code(rng);
+        }
+    }
+    match rng.up_to(7) {
+        0 => entry.price = odd,
+        1 => entry.shares = odd,
+        2 => entry.id = rng.up_to(venue.last_id),
+        _ => {}
     }
     entry
 }
@@ -395,6 +420,13 @@ impl Session {
     }
 
     fn event(&mut self, venue: &Venue) -> Event {
+        // A full book is one for few events, and codes are looked at before it.
+        let full = venue.orders.len() == PLACES && !self.kind.is_from_open();
+        if full && self.rng.one_in(2) {
+            let entry = self.market.entry(&mut self.rng, venue);
+            let odd = odd_number(&mut self.rng);
+            return Event::Entry(spoil_codes(&mut self.rng, entry, odd, venue));
+        }
         let sound = self.market.event(&mut self.rng, venue);
         let nonsense_one_in = match self.kind {
             Kind::Nonsense => 2,

@@ -53,7 +53,8 @@ impl Order {
             && self.mark <= HIGHEST_MARK
             && self.show <= DISPLAYED
             && self.life == DAY
-            && is_slide(self.slide, self.mark)
+            && is_slide(self.slide)
+            && suits_mark(self.slide, self.mark)
             && is_bid(step, self.entry_bid)
             && (!self.market || self.may_be_market())
     }
@@ -117,10 +118,14 @@ impl From<&Order> for OrderRecord {
     }
 }
 
-/// "slide (0 continuous, 1 once, 2 no more, 3 opt-out; 0 for marks other than
-/// 2)"
-pub(super) fn is_slide(slide: u32, mark: u32) -> bool {
-    slide == 0 || (slide <= OPT_OUT && mark == SHORT)
+/// "slide (0 continuous, 1 once, 2 no more, 3 opt-out"
+pub(super) fn is_slide(slide: u32) -> bool {
+    slide <= OPT_OUT
+}
+
+/// "0 for marks other than 2"
+pub(super) fn suits_mark(slide: u32, mark: u32) -> bool {
+    slide == CONTINUOUS || mark == SHORT
 }
 
 /// Where the best order lies that the working order can trade with: "the best

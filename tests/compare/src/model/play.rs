@@ -189,6 +189,23 @@ mod tests {
         lent.assert_played(9);
     }
 
+    /// Entries with a bad mark, show, slide code and a slide on a buy: 18, 5, 19 and
+    /// 20, each in one byte behind the 0.
+    #[test]
+    fn refused_codes_in_one_call() {
+        let records: [&[u8]; 4] = [
+            &[1, 1, 4, 9, 5, 1, 0, 0],
+            &[1, 1, 0, 9, 5, 2, 0, 0],
+            &[1, 1, 2, 9, 5, 1, 0, 4],
+            &[1, 1, 0, 9, 5, 1, 0, 1],
+        ];
+        let mut lent = Lent::new(6 + LEAST_BUFFER, 4);
+        assert_eq!(lent.play(&records.concat(), 0), Ok(Stop::RecordsEnd));
+        assert_eq!(lent.reports[..8], [0, 18, 0, 5, 0, 19, 0, 20]);
+        assert_eq!(lent.ends, [2, 4, 6, 8]);
+        assert_eq!(lent.venue, Venue::fresh(100, 100_000));
+    }
+
     #[test]
     fn stops_where_no_place_for_an_end_is_left() {
         for ends in 0..9 {

@@ -2,8 +2,8 @@
 //! five kinds of event.
 
 use super::book::{
-    best_opposite, is_slide, Order, BUY, CONTINUOUS, DISPLAYED, HIGHEST_MARK, IMMEDIATE, ONCE,
-    OPT_OUT, PLACES, SHORT,
+    best_opposite, is_slide, suits_mark, Order, BUY, CONTINUOUS, DISPLAYED, HIGHEST_MARK,
+    IMMEDIATE, ONCE, OPT_OUT, PLACES, SHORT,
 };
 use super::form::{Entry, Event, Report, ReportWriter};
 use super::prices::{
@@ -178,15 +178,11 @@ impl Venue {
     /// id not above the last accepted id (0 never is); 7 if 256 orders rest." And
     /// "refusal 3 no longer meets an entry price of 0", the others do (F1.6).
     fn refuse_entry(&self, entry: &Entry) -> Result<(), Refusal> {
-        let codes = entry.mark <= HIGHEST_MARK
-            && entry.show <= DISPLAYED
-            && entry.life <= IMMEDIATE
-            && is_slide(entry.slide, entry.mark);
         let shares = (1..=MOST_SHARES).contains(&entry.shares);
         let price = entry.is_market() || is_legal(self.step, entry.price);
         refuse_unless(price, Refusal::Price)?;
         refuse_unless(shares, Refusal::Shares)?;
-        refuse_unless(codes, Refusal::Code)?;
+        refuse_codes(entry)?;
         refuse_unless(entry.id > self.last_id, Refusal::Id)?;
         refuse_unless(self.orders.len() < PLACES, Refusal::Full)
     }
@@ -429,6 +425,19 @@ fn limit_of(entry: &Entry) -> u32 {
         _ if entry.is_market() => LOWEST,
         _ => entry.price,
     }
+}
+
+/// "A bad mark, a bad slide code, and a slide on an order that isn't short become
+/// their own answers. A bad show or life keeps 5. They are looked for in the
+/// order mark, show, life, slide code, slide on the wrong mark. These carry 18, 19
+/// and 20, in the place where 5 stands." A slide above 3 is 19 on every mark, 1 to
+/// 3 on a mark other than 2 is 20 (F3.1).
+fn refuse_codes(entry: &Entry) -> Result<(), Refusal> {
+    refuse_unless(entry.mark <= HIGHEST_MARK, Refusal::Mark)?;
+    refuse_unless(entry.show <= DISPLAYED, Refusal::ShowOrLife)?;
+    refuse_unless(entry.life <= IMMEDIATE, Refusal::ShowOrLife)?;
+    refuse_unless(is_slide(entry.slide), Refusal::SlideCode)?;
+    refuse_unless(suits_mark(entry.slide, entry.mark), Refusal::SlideOnMark)
 }
 
 fn refuse_unless(condition: bool, refusal: Refusal) -> Result<(), Refusal> {
