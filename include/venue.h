@@ -68,7 +68,7 @@ uint32_t venue_open(uint32_t *words, size_t words_length, uint32_t step, uint32_
    18  the mark is above 3
     5  the show or the life is above 1
    19  the slide is above 3, whatever the mark
-   20  a slide other than 0 with a mark other than 2, short
+   20  a slide other than 0 with a mark other than short, 2
     6  the id isn't above that of the last accepted entry
     7  256 orders rest already
     8  no order rests under the id to cancel */

@@ -71,7 +71,7 @@ fn terms_refusal(w: &[u32], price: u32, shares: u32) -> MayRefuse
     MayRefuse::Allow
 }
 
-// "slide on the wrong mark": a slide other than 0 on an order that isn't short.
+// "slide on the wrong mark" is one other than 0 on an order that isn't short; every other is on the right one.
 fn slide_on_right_mark(mark: u32, slide: u32) -> bool
     ensures { λ r. ⌜ r ≡ (eqb slide 0 || eqb mark 2) ⌝ }
 {

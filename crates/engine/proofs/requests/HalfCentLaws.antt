@@ -18,11 +18,11 @@ use Rattle.engine.specs.declared.Event.the-variants.{Entry as entry, Can
 use Rattle.engine.specs.rules.Market.{marketAfter, restricted, permittedNow}
 use Rattle.engine.specs.rules.Working.{followsBid, lifeOf, workingPrice, orderOf}
 use Rattle.engine.specs.rules.Pass.{slideOnce, slideDown, maySlide, moveOf, passOne, passOver}
-use Rattle.engine.specs.rules.Venue.{Venue, opening, entering, effectOfEntry, thePass, restrictionReport, effectOfDayEnd, effectOf}
+use Rattle.engine.specs.rules.Venue.{Venue, opening, entering, effectOfEntry, effectOfCancel, thePass, restrictionReport, effectOfDayEnd, effectOf}
 use Rattle.engine.specs.rules.Sound.{sound}
 use Rattle.engine.specs.rules.Refusals.{refuseUnless, refusalOfTerms, refusalOfKind, refusal}
 use Rattle.engine.specs.rules.Run.{stepUnless, step}
-use Rattle.engine.specs.claims.HalfCents.{soundBefore, refusalBefore, EventsAsBefore, PricesGivenAsBefore, withStep, CentsAsBefore, OthersRefused, OtherStepsRefused}
+use Rattle.engine.specs.claims.HalfCents.{soundBefore, refusalBefore, EventsAsBefore, PricesGivenAsBefore, withStep, venueWithStep, CentsAsBefore, OthersRefused, OtherStepsRefused}
 use Rattle.engine.proofs.refinement.RefusalLaws.{sound-step}
 
 -- as before
@@ -72,8 +72,8 @@ module _ (s t : ℕ) (m : Market) (h : permitted s (m .bid) ≡ permitted t (m .
   same-pass [] os n = refl
   same-pass (i ∷ is) os n = rw (same-turn (find i os) os n, same-pass is)
 
-  same-effect : (v : Venue) (e : Event) → effectOf (withStep s m) v e ≡ effectOf (withStep t m) v e
-  unfolding effectOf effectOfEntry thePass restrictionReport effectOfDayEnd
+  same-effect : (v : Venue) (e : Event) → effectOf (withStep s m) (venueWithStep s v) e ≡ effectOf (withStep t m) (venueWithStep t v) e
+  unfolding effectOf effectOfEntry effectOfCancel thePass restrictionReport effectOfDayEnd
   same-effect v (entry e) = ap (λ (o : Order). entering o (v .orders)) (same-order (v .lastStamp + 1) e)
   same-effect v (cancel i) = refl
   same-effect v (bid b) = same-pass _ (v .orders) (v .lastStamp)

@@ -17,7 +17,7 @@ use Rattle.engine.specs.rules.Refusals.{refuseUnless, firstOf, refusalOf
 use Rattle.engine.specs.rules.Run.{Step, stepUnless, step}
 use Rattle.engine.specs.rules.Answers.{countOf, bufferAfter}
 use Rattle.engine.specs.rules.Layout.{venueOf, stepIn}
-use Rattle.engine.specs.claims.WhichCode.{codesBefore, refusalBefore, stepBefore, readAs5, refusalRead, answerRead, CodesAsBefore, stepInBefore, CallsAsBefore}
+use Rattle.engine.specs.claims.WhichCode.{codesBefore, entryRefusalBefore, stepBefore, readAs5, refusalRead, answerRead, CodesAsBefore, stepInBefore, CallsAsBefore}
 
 -- of the refusals
 
@@ -58,7 +58,7 @@ unfolding refusalOfKind
 kind-read v e =
     read-first (refusalOfTerms (v.market.step) (e .price) (e .shares)) _ ∙ rw (terms-read (v.market.step) (e .price) (e .shares), read-first (refusalOfCodes e) (refusalOfPlace v (e .id)), codes-read e, place-read v (e .id))
 
-refusal-read : (v : Venue) (e : Entry) (n : ℕ) → refusalRead (refusal v (entry e) n) ≡ refusalBefore v e n
+refusal-read : (v : Venue) (e : Entry) (n : ℕ) → refusalRead (refusal v (entry e) n) ≡ entryRefusalBefore v e n
 unfolding refusal pick
 refusal-read v e n = read-later _ 16 _ _ refl (read-later _ 1 _ _ refl (read-later _ 2 _ _ refl (kind-read v e)))
 

@@ -148,18 +148,18 @@ pub record Played : Type 0 where
   pub onceKept : lastAnswerTo (restrictedDay (entryOf 1 2 0 5 1 0 1 ∷ bid 0 ∷ bid 90_500 ∷ [])) ≡ gives (repriced 1 91_000 2 ∷ [])
   pub halfCentDay : answersAt 50 halfCentEvents ≡ halfCentAnswers
 
--- entries of which several fields are bad (No. 3), and the refusal of the one that is looked for first: codes (mark, show, life, slide), then an id, a price
--- and shares beside them
+-- entries with one or more bad fields (No. 3), and the refusal of the one that is looked for first: codes (mark, show, life, slide); an id alone and beside a
+-- code; a price and shares beside one
 abbrev pub codesOf : ℕ → ℕ → ℕ → ℕ → Event
 codesOf mark show life slide = entryOf 1 mark 90_000 100 show life slide
 
 abbrev pub badEntries : List Event
 badEntries =
     codesOf 4 2 2 9 ∷ codesOf 0 2 2 9 ∷ codesOf 0 1 2 9 ∷ codesOf 0 1 1 9 ∷ codesOf 0 1 1 1 ∷ codesOf 3 1 1 3 ∷ codesOf 2 1 1 4
-    ∷ entryOf 0 2 90_000 100 1 1 3 ∷ entryOf 1 9 90_001 100 1 1 3 ∷ entryOf 1 9 90_000 0 1 1 3 ∷ []
+    ∷ entryOf 0 2 90_000 100 1 1 3 ∷ entryOf 0 9 90_000 100 1 1 3 ∷ entryOf 1 9 90_001 100 1 1 3 ∷ entryOf 1 9 90_000 0 1 1 3 ∷ []
 
 abbrev pub firstBad : List ℕ
-firstBad = 18 ∷ 5 ∷ 5 ∷ 19 ∷ 20 ∷ 20 ∷ 19 ∷ 6 ∷ 3 ∷ 4 ∷ []
+firstBad = 18 ∷ 5 ∷ 5 ∷ 19 ∷ 20 ∷ 20 ∷ 19 ∷ 6 ∷ 18 ∷ 3 ∷ 4 ∷ []
 
 abbrev pub CodesInOrder : Type 0
 CodesInOrder = All (λ (s : ℕ). answersAt s badEntries ≡ map refuses firstBad) (100 ∷ 50 ∷ [])

@@ -27,7 +27,7 @@ use Rattle.engine.specs.rules.Sound.{mostOrders, mostEvents}
 use Rattle.engine.specs.rules.Refusals.{refuseUnless, firstOf, refusalOfCodes, refusalOfPlace, rests, leastBuffer, refusal}
 use Rattle.engine.specs.rules.Run.{step}
 
--- Before No. 2: the parts of an event that look at a price, a bid or a permitted price, with document 01's
+-- Before No. 2: the parts of an event that look at a price, a bid or a permitted price, with document 01's; codes and place are those of now
 
 -- the conditions of a venue record (16)
 abbrev pub orderBefore : ℕ → ℕ → Order → Bool
@@ -84,14 +84,17 @@ pub record PricesGivenAsBefore (m : Market) : Type 0 where
   pub works : (mark price : ℕ) → workingPrice m mark price ≡ workingBefore m mark price
   pub moves : (o : Order) → moveOf m o ≡ goesBefore m o
 
--- what an accepted event does looks at the step by the permitted price alone
+-- two steps that give the bid the same permitted price, as any two do below 10,000, have the same effect of every accepted event
 abbrev pub withStep : ℕ → Market → Market
 withStep s m = record { close = m.close; phase = m.phase; bid = m.bid; step = s }
+
+abbrev pub venueWithStep : ℕ → Venue → Venue
+venueWithStep s v = record { market = withStep s (v .market); orders = v.orders; lastId = v.lastId; lastStamp = v.lastStamp; acceptedEvents = v.acceptedEvents }
 
 abbrev pub ByPermittedPrice : Type 0
 ByPermittedPrice =
     (s t : ℕ) (m : Market) → permitted s (m .bid) ≡ permitted t (m .bid) →
-    (v : Venue) (e : Event) → effectOf (withStep s m) v e ≡ effectOf (withStep t m) v e
+    (v : Venue) (e : Event) → effectOf (withStep s m) (venueWithStep s v) e ≡ effectOf (withStep t m) (venueWithStep t v) e
 
 pub record CentsAsBefore : Type 0 where
   pub opening : (close : ℕ) → opening 100 close ≡ pick (legalBefore close) (gives (opened 100 close)) (refuses 3)

@@ -134,7 +134,7 @@ MarketShortsStayInCalls =
 abbrev pub MovesAsBefore : Type 0
 MovesAsBefore = (m : Market) (o : Order) → T (not (o .market && eqb (m .bid) 0)) → moveOf m o ≡ moveBefore m o
 
--- an entry with a price other than 0 is refused as before, and reports and leaves what it did before
+-- an entry with a price other than 0 has the terms of before, beside the codes and the place of now, and reports and leaves what it did before
 pub record EntryAsBefore (v : Venue) (e : Entry) : Type 0 where
   pub refusal : refusalOfKind v (entry e) ≡ firstOf (termsBefore (v.market.step) (e .price) (e .shares)) (firstOf (refusalOfCodes e) (refusalOfPlace v (e .id)))
   pub effect : effectOfEntry (v .market) v e ≡ effectBefore (v .market) v e

@@ -1,4 +1,4 @@
--- Document 02, No. 3, which code was bad, as a claim: with 18, 19 and 20 read as 5, every entry is answered as before. The order in which the codes are
+-- Document 02, No. 3, which code was bad, as claims: with 18, 19 and 20 read as 5, every entry is answered as before. The order in which the codes are
 -- looked for is checked in `Examples`. Assumes nothing.
 use Prim.Native.Nat.{ℕ}
 use mathlib.Core.Path.{_≡_}
@@ -26,15 +26,15 @@ abbrev pub codesBefore : Entry → Option ℕ
 codesBefore e = refuseUnless (conj (leb (e .mark) 3 ∷ leb (e .show) 1 ∷ leb (e .life) 1 ∷ slideAllowed (e .mark) (e .slide) ∷ [])) 5 none
 
 -- the refusals of an entry, and what it does, with those in the place of the codes
-abbrev pub refusalBefore : Venue → Entry → ℕ → Option ℕ
-refusalBefore v e n =
+abbrev pub entryRefusalBefore : Venue → Entry → ℕ → Option ℕ
+entryRefusalBefore v e n =
     refuseUnless (sound v) 16
     (refuseUnless (leb leastBuffer n) 1
     (refuseUnless (ltb (v .acceptedEvents) mostEvents) 2
     (firstOf (refusalOfTerms (v.market.step) (e .price) (e .shares)) (firstOf (codesBefore e) (refusalOfPlace v (e .id))))))
 
 abbrev pub stepBefore : Venue → Entry → ℕ → Step
-stepBefore v e n = stepUnless (refusalBefore v e n) v (entry e)
+stepBefore v e n = stepUnless (entryRefusalBefore v e n) v (entry e)
 
 -- 18, 19 and 20 read as 5
 abbrev pub readAs5 : ℕ → ℕ
@@ -49,13 +49,13 @@ answerRead (gives x) = gives x
 answerRead (refuses n) = refuses (readAs5 n)
 
 -- read so, every entry is refused as before: nothing is accepted or refused that wasn't; the reports and the venue are those of before
-pub record EntryAsBefore (v : Venue) (e : Entry) (n : ℕ) : Type 0 where
-  pub refusal : refusalRead (refusal v (entry e) n) ≡ refusalBefore v e n
+pub record ReadAsBefore (v : Venue) (e : Entry) (n : ℕ) : Type 0 where
+  pub refusal : refusalRead (refusal v (entry e) n) ≡ entryRefusalBefore v e n
   pub answer : answerRead (step v (entry e) n .answer) ≡ stepBefore v e n .answer
   pub venue : step v (entry e) n .venue ≡ stepBefore v e n .venue
 
 abbrev pub CodesAsBefore : Type 0
-CodesAsBefore = (v : Venue) (e : Entry) (n : ℕ) → EntryAsBefore v e n
+CodesAsBefore = (v : Venue) (e : Entry) (n : ℕ) → ReadAsBefore v e n
 
 -- the same of every call of apply, on any words and any buffer
 abbrev pub stepInBefore : List ℕ → Entry → ℕ → Step
