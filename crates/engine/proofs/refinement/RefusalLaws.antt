@@ -86,7 +86,11 @@ refusalOfTerms-known s is e =
 refusalOfCodes-known : (e : Entry) → Unless (refusalOfCodes e) (CodesAllowed e)
 unfolding refusalOfCodes
 refusalOfCodes-known e =
-    refuseUnless-known _ _ _ _ (λ m. refuseUnless-known _ _ _ _ (λ s. refuseUnless-known _ _ _ _ (λ l. refuseUnless-known _ (leb (e .slide) 3) _ _ (λ a. refuseUnless-known _ _ _ none (λ b. record { mark = leb→le _ _ m; show = leb→le _ _ s; life = leb→le _ _ l; slide = T-and (leb (e .slide) 3) _ a b })))))
+    refuseUnless-known _ _ _ _ (λ m.
+    refuseUnless-known _ _ _ _ (λ s.
+    refuseUnless-known _ _ _ _ (λ l.
+    refuseUnless-known _ (leb (e .slide) 3) _ _ (λ c.
+    refuseUnless-known _ _ _ none (λ r. record { mark = leb→le _ _ m; show = leb→le _ _ s; life = leb→le _ _ l; slide = T-and (leb (e .slide) 3) _ c r })))))
 
 refusalOfPlace-known : (v : Venue) (id : ℕ) → Unless (refusalOfPlace v id) (PlaceAllowed v id)
 unfolding refusalOfPlace
