@@ -35,6 +35,8 @@ int main(void)
     /* bid 91,100; entry 1 2 90500 500 1 0 0 with two bytes behind it */
     static const uint8_t bid[] = {0x03, 0xDC, 0xC7, 0x05};
     static const uint8_t entry[] = {0x01, 0x01, 0x02, 0x84, 0xC3, 0x05, 0xF4, 0x03, 0x01, 0x00, 0x00, 0xFF, 0xFF};
+    /* entry 2 0 90500 500 1 0 1: a buy with a slide */
+    static const uint8_t buy_with_slide[] = {0x01, 0x02, 0x00, 0x84, 0xC3, 0x05, 0xF4, 0x03, 0x01, 0x00, 0x01};
     static const uint8_t last_group_0[] = {0x03, 0x83, 0x00};
     static const uint8_t kind_6[] = {0x06, 0x01};
     static const uint8_t field_2_32[] = {0x02, 0x80, 0x80, 0x80, 0x80, 0x10};
@@ -67,5 +69,6 @@ int main(void)
     apply("bid 91100", words, bid, sizeof bid);
     apply("entry", words, entry, sizeof entry);
     apply("entry again", words, entry, sizeof entry);
+    apply("buy with a slide", words, buy_with_slide, sizeof buy_with_slide);
     return 0;
 }

@@ -50,7 +50,10 @@ returns-3 c = let s = c .before .before in simp (mark (from-show s), show s, lt-
 
 returns-4 : tie.Need-returns-4
 unfolding refusalOfCodes refuseUnless
-returns-4 c = let s = c .before .before in simp (mark (from-show (from-life s)), show (from-life s), life s, lt-leb _ 3 (c .if4 .taken))
+returns-4 c =
+    let l = c .before .before in
+    let s = from-life l in
+    simp (mark (from-show s), show s, life l, lt-leb _ 3 (c .if4 .taken))
 
 slide-on-right-mark-requires : tie.Need-slide-on-right-mark-requires
 slide-on-right-mark-requires c κs = search needs
@@ -58,16 +61,20 @@ slide-on-right-mark-requires c κs = search needs
 returns-5 : tie.Need-returns-5
 unfolding refusalOfCodes refuseUnless
 returns-5 c =
-    let s = c .before .before in
+    let d = c .before .before in
+    let l = from-slide d in
+    let s = from-life l in
     let r = c .before .slide-on-right-mark in
-    simp (mark (from-show (from-life (from-slide s))), show (from-life (from-slide s)), life (from-slide s), slide s, sym (r .ensures) ∙ not-yes (r .result) (c .if5 .taken))
+    simp (mark (from-show s), show s, life l, slide d, sym (r .ensures) ∙ not-yes (r .result) (c .if5 .taken))
 
 returns-6 : tie.Need-returns-6
 unfolding refusalOfCodes refuseUnless
 returns-6 c =
-    let s = c .before .before in
+    let d = c .before .before in
+    let l = from-slide d in
+    let s = from-life l in
     let r = c .before .slide-on-right-mark in
-    simp (mark (from-show (from-life (from-slide s))), show (from-life (from-slide s)), life (from-slide s), slide s, sym (r .ensures) ∙ not-no (r .result) (c .if5 .left))
+    simp (mark (from-show s), show s, life l, slide d, sym (r .ensures) ∙ not-no (r .result) (c .if5 .left))
 
 pub codes-refusal-spec : {M : Type 1} → statement M
 codes-refusal-spec =
