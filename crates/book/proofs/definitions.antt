@@ -7,3 +7,4 @@ pub mod CounterpartyLaws
 pub mod PriorityLaws
 pub mod MeetingLaws
 pub mod MatchingLaws
+pub mod FillLaws

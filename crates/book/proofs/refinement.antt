@@ -10,5 +10,6 @@ pub mod StampLaws
 pub mod SoundBookLaws
 pub mod SoundOrderLaws
 pub mod WalkLaws
+pub mod FrontLaws
 pub mod DepthLaws
 pub mod LentRecords

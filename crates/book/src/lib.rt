@@ -1,5 +1,6 @@
 // Orders, their priority and matching: the third layer.
 pub mod depth;
+pub mod fill;
 pub mod place;
 pub mod priority;
 pub mod record;
@@ -60,6 +61,12 @@ pub struct OrderRecord {
 pub enum Position {
     At(usize),
     Absent,
+}
+
+// Whether an order would fill in full, and how many orders were read to tell.
+pub struct FrontRead {
+    pub full: bool,
+    pub read: usize,
 }
 
 // The side of the book that depth is asked for.

@@ -25,7 +25,7 @@ fn out_of_reach(opposite: bool) -> u64
 
 // Whether the working order o reaches the resting order x. One comparison tests side and price: the side of the next order can't be foretold, so
 // no branch goes by it.
-fn reaches(o: Order, x: Order) -> bool
+pub(crate) fn reaches(o: Order, x: Order) -> bool
     ensures { λ r. ⌜ r ≡ Matching.reaches o x ⌝ }
 {
     if o.mark == 0 {

@@ -11,3 +11,4 @@ pub mod Answers
 pub mod Copy
 pub mod Records
 pub mod Layout
+pub mod Fill

@@ -1,7 +1,8 @@
-// The venue of document 01, with document 02 up to No. 3: events, reports, refusals and the law of demand 3. The fourth layer.
+// The venue of document 01, with document 02 up to No. 4: events, reports, refusals and the law of demand 3. The fourth layer.
 pub mod apply;
 pub mod copy;
 mod enter;
+pub mod fill;
 mod header;
 mod leave;
 pub mod open;
@@ -12,6 +13,7 @@ mod report;
 mod slide;
 mod working;
 
+use book::FrontRead;
 use book::Order;
 use book::words;
 
@@ -116,6 +118,12 @@ pub enum CopyAnswer {
     Filled(usize),
     RunTooShort,
     VenueBroken,
+}
+
+// What the question whether an entry would fill answers: yes or no with the count of orders read, or why it wasn't asked.
+pub enum FillAnswer {
+    Told(FrontRead),
+    NotAsked(Refusal),
 }
 
 // What open answers.

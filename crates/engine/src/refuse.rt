@@ -9,6 +9,7 @@ use prices::increments;
 ghost use mathlib.Core.Path.{_≡_};
 ghost use Prim.Native.Nat.{_≤_};
 ghost use mathlib.Core.Bool.{_||_};
+ghost use mathlib.Core.Option.{none};
 ghost use lib.Dec.{eqb};
 ghost use lib.ListN.{length};
 ghost use Rattle.numbers.specs.Tests.{conj};
@@ -18,7 +19,7 @@ ghost use Rattle.book.specs.steps.BookSteps.{Book};
 ghost use Rattle.engine.specs.declared.Event.the-variants.{Entry as entry};
 ghost use Rattle.engine.specs.rules.Working.{isMarket};
 ghost use Rattle.engine.specs.rules.Sound.{headerConditions};
-ghost use Rattle.engine.specs.rules.Refusals.{refusalOfTerms, refusalOfCodes, refusalOfPlace, refusalOfKind};
+ghost use Rattle.engine.specs.rules.Refusals.{firstOf, refusalOfTerms, refusalOfMark, refusalOfOtherCodes, refusalOfCodes, refusalOfPlace, refusalOfKind};
 ghost use Rattle.engine.specs.rules.Layout.{venueOf, soundWords};
 ghost use Rattle.engine.specs.rules.Answers.{refusedWith};
 ghost use Rattle.engine.specs.steps.Memory.{HasStep};
@@ -81,13 +82,18 @@ fn slide_on_right_mark(mark: u32, slide: u32) -> bool
     mark == 2
 }
 
-// The codes of an entry, "in the order mark, show, life, slide code, slide on the wrong mark".
-fn codes_refusal(e: Entry) -> MayRefuse
-    ensures { λ r. ⌜ refusedWith r ≡ refusalOfCodes e ⌝ }
+fn mark_refusal(mark: u32) -> MayRefuse
+    ensures { λ r. ⌜ refusedWith r ≡ refusalOfMark mark none ⌝ }
 {
-    if e.mark > 3 {
+    if mark > 3 {
         return MayRefuse::Refuse(Refusal::MarkOutOfRange);
     }
+    MayRefuse::Allow
+}
+
+fn other_codes_refusal(e: Entry) -> MayRefuse
+    ensures { λ r. ⌜ refusedWith r ≡ refusalOfOtherCodes e ⌝ }
+{
     if e.show > 1 {
         return MayRefuse::Refuse(Refusal::ShowOrLifeOutOfRange);
     }
@@ -103,6 +109,16 @@ fn codes_refusal(e: Entry) -> MayRefuse
     MayRefuse::Allow
 }
 
+// The codes of an entry, "in the order mark, show, life, slide code, slide on the wrong mark".
+fn codes_refusal(e: Entry) -> MayRefuse
+    ensures { λ r. ⌜ refusedWith r ≡ refusalOfCodes e ⌝ }
+{
+    match mark_refusal(e.mark) {
+        MayRefuse::Refuse(refusal) => MayRefuse::Refuse(refusal),
+        MayRefuse::Allow => other_codes_refusal(e),
+    }
+}
+
 // The place of an entry: its id, and room in the book.
 fn place_refusal(w: &[u32], id: u32) -> MayRefuse
     requires { ⌜ Book (now w) ⌝ }
@@ -115,6 +131,17 @@ fn place_refusal(w: &[u32], id: u32) -> MayRefuse
         return MayRefuse::Refuse(Refusal::BookFull);
     }
     MayRefuse::Allow
+}
+
+// What a question is refused for, as an entry is: price and shares, then the mark.
+pub(crate) fn asked_refusal(w: &[u32], mark: u32, price: u32, shares: u32) -> MayRefuse
+    requires { ⌜ HasStep (now w) ⌝ }
+    ensures { λ r. ⌜ refusedWith r ≡ firstOf (refusalOfTerms (venueOf (now (w .entry)) .market .step) price shares) (refusalOfMark mark none) ⌝ }
+{
+    match terms_refusal(w, price, shares) {
+        MayRefuse::Refuse(refusal) => MayRefuse::Refuse(refusal),
+        MayRefuse::Allow => mark_refusal(mark),
+    }
 }
 
 pub(crate) fn entry_refusal(w: &[u32], e: Entry) -> MayRefuse

@@ -2,7 +2,7 @@
 -- Assumes nothing.
 use Prim.Native.Nat.{ℕ, _<_}
 use native.Mathlib.Omega.{arith}
-use mathlib.Core.Path.{_≡_}
+use mathlib.Core.Path.{_≡_, refl}
 use mathlib.Core.Bool.{Bool, true, false, _&&_}
 use mathlib.Core.Option.{Option, none, some}
 use mathlib.Core.List.{List}
@@ -28,6 +28,17 @@ refuse-yes b n later e = rw e
 pub refuse-no : (b : Bool) (n : ℕ) (later : Option ℕ) → b ≡ false → refuseUnless b n later ≡ some n
 unfolding refuseUnless
 refuse-no b n later e = rw e
+
+-- a test of a chain that was asked alone
+pub refuse-given : (b : Bool) (n : ℕ) {k : ℕ} (later : Option ℕ) → refuseUnless b n none ≡ some k → refuseUnless b n later ≡ some k
+unfolding refuseUnless
+refuse-given true n later e = let z : _≡_ {A = ℕ} 0 1 = cc in absurd (omega arith)
+refuse-given false n later e = e
+
+pub refuse-none : (b : Bool) (n : ℕ) (later : Option ℕ) → refuseUnless b n none ≡ none → refuseUnless b n later ≡ later
+unfolding refuseUnless
+refuse-none true n later e = refl
+refuse-none false n later e = let z : _≡_ {A = ℕ} 0 1 = cc in absurd (omega arith)
 
 pub first-given : {r : Option ℕ} {n : ℕ} (later : Option ℕ) → r ≡ some n → firstOf r later ≡ some n
 unfolding firstOf

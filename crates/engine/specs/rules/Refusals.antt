@@ -38,14 +38,20 @@ refusalOfTerms step price shares =
 
 -- its codes, No. 3: "A bad mark, a bad slide code, and a slide on an order that isn't short become their own answers. A bad show or life keeps 5. They are
 -- looked for in the order mark, show, life, slide code, slide on the wrong mark. These carry 18, 19 and 20, in the place where 5 stands"
-unfoldable pub refusalOfCodes : Entry → Option ℕ
-refusalOfCodes e =
-    refuseUnless (leb (e .mark) 3) 18
-    (refuseUnless (leb (e .show) 1) 5
+-- the mark is asked by No. 4 too, which has no other code
+abbrev pub refusalOfMark : ℕ → Option ℕ → Option ℕ
+refusalOfMark mark later = refuseUnless (leb mark 3) 18 later
+
+abbrev pub refusalOfOtherCodes : Entry → Option ℕ
+refusalOfOtherCodes e =
+    refuseUnless (leb (e .show) 1) 5
     (refuseUnless (leb (e .life) 1) 5
     (refuseUnless (leb (e .slide) 3) 19
     (refuseUnless (eqb (e .slide) 0 || eqb (e .mark) 2) 20
-    none))))
+    none)))
+
+unfoldable pub refusalOfCodes : Entry → Option ℕ
+refusalOfCodes e = refusalOfMark (e .mark) (refusalOfOtherCodes e)
 
 -- its place: "6 id not above the last accepted id (0 never is); 7 if 256 orders rest"
 unfoldable pub refusalOfPlace : Venue → ℕ → Option ℕ

@@ -1,0 +1,53 @@
+// Would an entry fill in full now: the front of the book is read, and nothing is changed.
+use crate::Entry;
+use crate::FillAnswer;
+use crate::MayRefuse;
+use crate::Refusal;
+use crate::header;
+use crate::refuse;
+use crate::working;
+use book::Order;
+use book::fill;
+ghost use mathlib.Core.Path.{_≡_};
+ghost use lib.Dec.{T};
+ghost use Rattle.engine.specs.rules.Layout.{venueOf, soundWords};
+ghost use Rattle.engine.specs.rules.Answers.{refusedWith};
+ghost use Rattle.engine.specs.rules.Fill.{askedOrder, wouldFillIn, outcomeOfFill};
+ghost use Rattle.engine.specs.steps.Memory.{questionIn};
+
+// The refusals of a question, for any words.
+fn question_refusal(w: &[u32], mark: u32, price: u32, shares: u32) -> MayRefuse
+    ensures { λ r. ⌜ refusedWith r ≡ questionIn (now (w .entry)) mark price shares ⌝ }
+{
+    if !refuse::venue_sound(w) {
+        return MayRefuse::Refuse(Refusal::VenueBroken);
+    }
+    refuse::asked_refusal(w, mark, price, shares)
+}
+
+// The order that is asked about.
+fn asked_order(w: &[u32], mark: u32, price: u32, shares: u32) -> Order
+    requires { ⌜ T (soundWords (now w)) ⌝ }
+    ensures { λ r. ⌜ r ≡ askedOrder (venueOf (now (w .entry)) .market) mark price shares ⌝ }
+{
+    let e = Entry {
+        id: 0,
+        mark,
+        price,
+        shares,
+        show: 0,
+        life: 0,
+        slide: 0,
+    };
+    working::order_of(header::market(w), 0, e)
+}
+
+// Whether an entry with a mark, a price and shares would fill in full now, and how many orders were read to tell: any words, any numbers.
+pub fn would_fill(words: &[u32], mark: u32, price: u32, shares: u32) -> FillAnswer
+    ensures { λ r. ⌜ outcomeOfFill r ≡ wouldFillIn (now (words .entry)) mark price shares ⌝ }
+{
+    match question_refusal(words, mark, price, shares) {
+        MayRefuse::Refuse(refusal) => FillAnswer::NotAsked(refusal),
+        MayRefuse::Allow => FillAnswer::Told(fill::read_front(words, asked_order(words, mark, price, shares))),
+    }
+}
