@@ -13,3 +13,4 @@ pub mod AnswerLaws
 pub mod ApplyLaws
 pub mod OpeningLaws
 pub mod CopyLaws
+pub mod QuestionLaws

@@ -11,19 +11,7 @@ use book::fill;
 ghost use mathlib.Core.Path.{_≡_};
 ghost use lib.Dec.{T};
 ghost use Rattle.engine.specs.rules.Layout.{venueOf, soundWords};
-ghost use Rattle.engine.specs.rules.Answers.{refusedWith};
 ghost use Rattle.engine.specs.rules.Fill.{askedOrder, wouldFillIn, outcomeOfFill};
-ghost use Rattle.engine.specs.steps.Memory.{questionIn};
-
-// The refusals of a question, for any words.
-fn question_refusal(w: &[u32], mark: u32, price: u32, shares: u32) -> MayRefuse
-    ensures { λ r. ⌜ refusedWith r ≡ questionIn (now (w .entry)) mark price shares ⌝ }
-{
-    if !refuse::venue_sound(w) {
-        return MayRefuse::Refuse(Refusal::VenueBroken);
-    }
-    refuse::asked_refusal(w, mark, price, shares)
-}
 
 // The order that is asked about.
 fn asked_order(w: &[u32], mark: u32, price: u32, shares: u32) -> Order
@@ -46,8 +34,14 @@ fn asked_order(w: &[u32], mark: u32, price: u32, shares: u32) -> Order
 pub fn would_fill(words: &[u32], mark: u32, price: u32, shares: u32) -> FillAnswer
     ensures { λ r. ⌜ outcomeOfFill r ≡ wouldFillIn (now (words .entry)) mark price shares ⌝ }
 {
-    match question_refusal(words, mark, price, shares) {
+    if !refuse::venue_sound(words) {
+        return FillAnswer::NotAsked(Refusal::VenueBroken);
+    }
+    match refuse::asked_refusal(words, mark, price, shares) {
         MayRefuse::Refuse(refusal) => FillAnswer::NotAsked(refusal),
-        MayRefuse::Allow => FillAnswer::Told(fill::read_front(words, asked_order(words, mark, price, shares))),
+        MayRefuse::Allow => FillAnswer::Told(fill::read_front(
+            words,
+            asked_order(words, mark, price, shares),
+        )),
     }
 }

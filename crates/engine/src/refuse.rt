@@ -19,7 +19,7 @@ ghost use Rattle.book.specs.steps.BookSteps.{Book};
 ghost use Rattle.engine.specs.declared.Event.the-variants.{Entry as entry};
 ghost use Rattle.engine.specs.rules.Working.{isMarket};
 ghost use Rattle.engine.specs.rules.Sound.{headerConditions};
-ghost use Rattle.engine.specs.rules.Refusals.{firstOf, refusalOfTerms, refusalOfMark, refusalOfOtherCodes, refusalOfCodes, refusalOfPlace, refusalOfKind};
+ghost use Rattle.engine.specs.rules.Refusals.{refusalOfTerms, refusalOfMark, refusalOfOtherCodes, refusalOfCodes, refusalOfAsked, refusalOfPlace, refusalOfKind};
 ghost use Rattle.engine.specs.rules.Layout.{venueOf, soundWords};
 ghost use Rattle.engine.specs.rules.Answers.{refusedWith};
 ghost use Rattle.engine.specs.steps.Memory.{HasStep};
@@ -136,7 +136,7 @@ fn place_refusal(w: &[u32], id: u32) -> MayRefuse
 // What a question is refused for, as an entry is: price and shares, then the mark.
 pub(crate) fn asked_refusal(w: &[u32], mark: u32, price: u32, shares: u32) -> MayRefuse
     requires { ⌜ HasStep (now w) ⌝ }
-    ensures { λ r. ⌜ refusedWith r ≡ firstOf (refusalOfTerms (venueOf (now (w .entry)) .market .step) price shares) (refusalOfMark mark none) ⌝ }
+    ensures { λ r. ⌜ refusedWith r ≡ refusalOfAsked (venueOf (now (w .entry)) .market .step) mark price shares ⌝ }
 {
     match terms_refusal(w, price, shares) {
         MayRefuse::Refuse(refusal) => MayRefuse::Refuse(refusal),

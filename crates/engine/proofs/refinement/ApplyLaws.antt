@@ -25,7 +25,7 @@ use Rattle.engine.specs.rules.Layout.{venueOf, soundWords, stepIn}
 use Rattle.engine.specs.claims.Calls.{Applied}
 use Rattle.engine.proofs.refinement.MemoryLaws.{spare-same}
 use Rattle.engine.proofs.refinement.RefusalLaws.{sound-step, Allowed, NotRefused, Unless, refusalOfKind-known}
-use Rattle.engine.proofs.refinement.RefuseLaws.{refuse-yes, refuse-no, words-ordered, words-book, words-sound, sound-words}
+use Rattle.engine.proofs.refinement.RefuseLaws.{refuse-yes, refuse-no, unrefused, words-ordered, words-book, words-sound, sound-words}
 use Rattle.engine.proofs.refinement.OpeningLaws.{step-in}
 use Rattle.engine.proofs.demand3.ReachedLaws.{step-sound}
 use Rattle.engine.proofs.bytes.BoundLaws.{reports-room}
@@ -49,11 +49,6 @@ step-by-refusal w e n =
     (λ t. rw (and-no _ (T-false (isBook w) t), refuse-no false 16 _ refl))
 
 -- a call that isn't refused
-
-unrefused : (b : Bool) (n : ℕ) (later : Option ℕ) → refuseUnless b n later ≡ none → T b × (later ≡ none)
-unfolding refuseUnless
-unrefused true n later e = (tt, e)
-unrefused false n later e = let z : _≡_ {A = ℕ} 0 1 = cc in absurd (omega arith)
 
 module _ (w : List ℕ) (e : Event) (n : ℕ) (h : refusalIn w e n ≡ none) where
   pub not-refused : NotRefused (venueOf w) e n

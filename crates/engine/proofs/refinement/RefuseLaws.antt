@@ -10,7 +10,7 @@ use lib.Dec.{T, leb, le→leb, not-T}
 use lib.ListN.{length, getD}
 use Rattle.numbers.specs.Tests.{conj}
 use Rattle.prices.specs.Prices.{isStep}
-use Rattle.numbers.proofs.TestLaws.{T-false, and-T, T-and, bool-ext, Each, conj-T, T-conj, every-T, T-every}
+use Rattle.numbers.proofs.TestLaws.{T-true, T-false, and-T, T-and, bool-ext, Each, conj-T, T-conj, every-T, T-every}
 use Rattle.book.specs.declared.Order.{Order}
 use Rattle.book.specs.rules.Sound.{soundOrder}
 use Rattle.book.specs.rules.Words.{venueWords, resting, isBook, soundBook}
@@ -29,20 +29,28 @@ pub refuse-no : (b : Bool) (n : ℕ) (later : Option ℕ) → b ≡ false → re
 unfolding refuseUnless
 refuse-no b n later e = rw e
 
--- a test of a chain that was asked alone
+pub unrefused : (b : Bool) (n : ℕ) (later : Option ℕ) → refuseUnless b n later ≡ none → T b × (later ≡ none)
+unfolding refuseUnless
+unrefused true n later e = (tt, e)
+unrefused false n later e = let z : _≡_ {A = ℕ} 0 1 = cc in absurd (omega arith)
+
+-- one test of a chain, asked by itself
 pub refuse-given : (b : Bool) (n : ℕ) {k : ℕ} (later : Option ℕ) → refuseUnless b n none ≡ some k → refuseUnless b n later ≡ some k
 unfolding refuseUnless
 refuse-given true n later e = let z : _≡_ {A = ℕ} 0 1 = cc in absurd (omega arith)
 refuse-given false n later e = e
 
 pub refuse-none : (b : Bool) (n : ℕ) (later : Option ℕ) → refuseUnless b n none ≡ none → refuseUnless b n later ≡ later
-unfolding refuseUnless
-refuse-none true n later e = refl
-refuse-none false n later e = let z : _≡_ {A = ℕ} 0 1 = cc in absurd (omega arith)
+refuse-none b n later e = refuse-yes b n later (T-true b (unrefused b n none e .0))
 
 pub first-given : {r : Option ℕ} {n : ℕ} (later : Option ℕ) → r ≡ some n → firstOf r later ≡ some n
 unfolding firstOf
 first-given later e = rw e
+
+pub first-nothing : (r later : Option ℕ) → firstOf r later ≡ none → (r ≡ none) × (later ≡ none)
+unfolding firstOf
+first-nothing none later e = (refl, e)
+first-nothing (some n) later e = let z : _≡_ {A = ℕ} 0 1 = cc in absurd (omega arith)
 
 pub first-none : {r : Option ℕ} (later : Option ℕ) → r ≡ none → firstOf r later ≡ later
 unfolding firstOf

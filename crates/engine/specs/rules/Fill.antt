@@ -15,7 +15,7 @@ use Rattle.engine.specs.declared.FillAnswer.the-variants.{Told, NotAsked
 use Rattle.engine.specs.rules.Working.{orderOf}
 use Rattle.engine.specs.rules.Venue.{Venue}
 use Rattle.engine.specs.rules.Sound.{sound}
-use Rattle.engine.specs.rules.Refusals.{refuseUnless, firstOf, refusalOfTerms, refusalOfMark}
+use Rattle.engine.specs.rules.Refusals.{refuseUnless, refusalOfAsked}
 use Rattle.engine.specs.rules.Answers.{refusalNumber}
 use Rattle.engine.specs.rules.Layout.{venueOf}
 
@@ -27,20 +27,15 @@ askedEntry mark price shares = record { id = 0; mark = mark; price = price; shar
 unfoldable pub askedOrder : Market → ℕ → ℕ → ℕ → Order
 askedOrder m mark price shares = orderOf m 0 (askedEntry mark price shares)
 
--- "The venue check, price, shares and mark are refused as in an entry"; "a full book or spent events don't matter to it"
-unfoldable pub refusalOfQuestion : Venue → ℕ → ℕ → ℕ → Option ℕ
-refusalOfQuestion v mark price shares =
-    refuseUnless (sound v) 16
-    (firstOf (refusalOfTerms (v.market.step) price shares)
-    (refusalOfMark mark none))
-
 -- "tell whether an entry would fill in full now", with "the count of orders read"
 unfoldable pub fillUnless : Option ℕ → Venue → ℕ → ℕ → ℕ → Outcome FrontRead
 fillUnless (some n) v mark price shares = refuses n
 fillUnless none v mark price shares = gives (frontRead (askedOrder (v .market) mark price shares) (v .orders))
 
+-- "The venue check, price, shares and mark are refused as in an entry"; "a full book or spent events don't matter to it"
 unfoldable pub wouldFill : Venue → ℕ → ℕ → ℕ → Outcome FrontRead
-wouldFill v mark price shares = fillUnless (refusalOfQuestion v mark price shares) v mark price shares
+wouldFill v mark price shares =
+    fillUnless (refuseUnless (sound v) 16 (refusalOfAsked (v.market.step) mark price shares)) v mark price shares
 
 -- of the venue that the words mean; words that are laid out as none are refused with 16
 unfoldable pub wouldFillIn : List ℕ → ℕ → ℕ → ℕ → Outcome FrontRead

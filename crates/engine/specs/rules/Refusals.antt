@@ -53,6 +53,10 @@ refusalOfOtherCodes e =
 unfoldable pub refusalOfCodes : Entry → Option ℕ
 refusalOfCodes e = refusalOfMark (e .mark) (refusalOfOtherCodes e)
 
+-- No. 4: "price, shares and mark are refused as in an entry"
+unfoldable pub refusalOfAsked : ℕ → ℕ → ℕ → ℕ → Option ℕ
+refusalOfAsked step mark price shares = firstOf (refusalOfTerms step price shares) (refusalOfMark mark none)
+
 -- its place: "6 id not above the last accepted id (0 never is); 7 if 256 orders rest"
 unfoldable pub refusalOfPlace : Venue → ℕ → Option ℕ
 refusalOfPlace v id =

@@ -2,7 +2,6 @@
 use Prim.Native.Nat.{ℕ, _+_, _≤_, _<_}
 use mathlib.Core.Path.{_≡_}
 use mathlib.Core.List.{List}
-use mathlib.Core.Option.{Option, none}
 use lib.Dec.{T}
 use lib.ListN.{length, getD}
 use Rattle.numbers.specs.SevenBit.{Put}
@@ -18,7 +17,7 @@ use Rattle.engine.specs.rules.Reports.{Report}
 use Rattle.engine.specs.rules.Pass.{Effect}
 use Rattle.engine.specs.rules.Venue.{Venue, effectOf, venueAfter}
 use Rattle.engine.specs.rules.Sound.{mostEvents, sound}
-use Rattle.engine.specs.rules.Refusals.{refuseUnless, firstOf, refusalOfTerms, refusalOfMark, leastBuffer}
+use Rattle.engine.specs.rules.Refusals.{leastBuffer}
 use Rattle.engine.specs.rules.Records.{reportsBytes}
 use Rattle.engine.specs.rules.Layout.{venueOf, soundWords}
 use Rattle.engine.specs.claims.Calls.{SameSpare}
@@ -28,13 +27,6 @@ pub record MayJudge (w b : List ℕ) : Type 0 where
   pub sound : T (soundWords w)
   pub buffer : leastBuffer ≤ length b
   pub events : venueOf w .acceptedEvents < mostEvents
-
--- the refusals of the question whether an entry would fill, for any words
-unfoldable pub questionIn : List ℕ → ℕ → ℕ → ℕ → Option ℕ
-questionIn w mark price shares =
-    refuseUnless (soundWords w) 16
-    (firstOf (refusalOfTerms (venueOf w .market .step) price shares)
-    (refusalOfMark mark none))
 
 -- words that are a book whose ids rise: what every step of the engine needs, and leaves
 pub record Ordered (w : List ℕ) : Type 0 where

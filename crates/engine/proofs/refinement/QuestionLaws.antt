@@ -1,0 +1,57 @@
+-- The question whether an entry would fill, over words: its refusals in their order, and what is told where none is given. Assumes nothing.
+use Prim.Native.Nat.{ℕ, _≤_, _<_}
+use native.Mathlib.Omega.{arith}
+use mathlib.Core.Path.{_≡_, refl, sym, ap, _∙_}
+use mathlib.Core.Bool.{false, _||_}
+use mathlib.Core.Option.{Option, none, some}
+use mathlib.Core.List.{List}
+use lib.Dec.{T, leb, leb→le}
+use Rattle.numbers.specs.Answers.{Outcome, gives, refuses}
+use Rattle.numbers.proofs.TestLaws.{by-test, pick-yes, T-true, T-false, and-yes}
+use Rattle.prices.specs.Prices.{legal}
+use Rattle.book.specs.declared.FrontRead.{FrontRead}
+use Rattle.book.specs.rules.Fill.{frontRead}
+use Rattle.book.specs.rules.Words.{resting, isBook}
+use Rattle.book.proofs.definitions.FillLaws.{front-bound}
+use Rattle.engine.specs.rules.Working.{isMarket, orderOf}
+use Rattle.engine.specs.rules.Sound.{sound}
+use Rattle.engine.specs.rules.Refusals.{refuseUnless, refusalOfTerms, refusalOfAsked}
+use Rattle.engine.specs.rules.Layout.{venueOf, soundWords}
+use Rattle.engine.specs.rules.Fill.{askedOrder, fillUnless, wouldFill, wouldFillIn}
+use Rattle.engine.proofs.refinement.RefuseLaws.{refuse-yes, refuse-no, unrefused, first-nothing, words-ordered, words-book, words-sound}
+
+module _ (w : List ℕ) (mark price shares : ℕ) where
+  abbrev refused : Option ℕ
+  refused = refusalOfAsked (venueOf w .market .step) mark price shares
+
+  -- 16 first
+  pub question-broken : soundWords w ≡ false → refuses 16 ≡ wouldFillIn w mark price shares
+  unfolding wouldFillIn wouldFill fillUnless soundWords
+  question-broken h =
+      by-test
+      (λ (x : Outcome FrontRead). refuses 16 ≡ x)
+      (isBook w)
+      (λ t. sym (ap (λ (x : Option ℕ). fillUnless x (venueOf w) mark price shares) (refuse-no (sound (venueOf w)) 16 refused (sym (and-yes (sound (venueOf w)) (T-true (isBook w) t)) ∙ h))))
+      (λ t. refl)
+
+  -- where they give nothing there are shares to fill
+  pub asked-shares : refused ≡ none → 0 < askedOrder (venueOf w .market) mark price shares .shares
+  unfolding refusalOfAsked refusalOfTerms askedOrder orderOf
+  asked-shares h =
+      let p = unrefused (isMarket price || legal (venueOf w .market .step) price) 3 _ (first-nothing (refusalOfTerms (venueOf w .market .step) price shares) _ h .0) in
+      omega (arith, leb→le 1 shares (unrefused (leb 1 shares) 4 _ (p .1) .0))
+
+  module _ (s : T (soundWords w)) where
+    -- then the others
+    question-sound : wouldFillIn w mark price shares ≡ fillUnless refused (venueOf w) mark price shares
+    unfolding wouldFillIn wouldFill
+    question-sound =
+        pick-yes (isBook w) _ _ (words-book w s) ∙ ap (λ (x : Option ℕ). fillUnless x (venueOf w) mark price shares) (refuse-yes (sound (venueOf w)) 16 refused (T-true _ (words-sound w s)))
+
+    pub question-refused : {k : ℕ} → refused ≡ some k → refuses k ≡ wouldFillIn w mark price shares
+    unfolding fillUnless
+    question-refused h = sym (question-sound ∙ ap (λ (x : Option ℕ). fillUnless x (venueOf w) mark price shares) h)
+
+    pub question-told : {r : FrontRead} → refused ≡ none → r ≡ frontRead (askedOrder (venueOf w .market) mark price shares) (resting w) → gives r ≡ wouldFillIn w mark price shares
+    unfolding fillUnless venueOf
+    question-told h e = ap gives e ∙ sym (question-sound ∙ ap (λ (x : Option ℕ). fillUnless x (venueOf w) mark price shares) h)
