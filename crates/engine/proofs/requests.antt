@@ -2,3 +2,4 @@
 pub mod MarketOrderLaws
 pub mod HalfCentLaws
 pub mod WhichCodeLaws
+pub mod FillLaws

@@ -8,3 +8,4 @@ pub mod Calls
 pub mod MarketOrders
 pub mod HalfCents
 pub mod WhichCode
+pub mod Fill

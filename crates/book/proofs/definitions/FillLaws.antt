@@ -3,12 +3,12 @@ use Prim.Native.Nat.{ℕ, zero, suc, _+_, _-_, _≤_, _<_, min}
 use native.Mathlib.Nat.{le-of-suc-le-suc}
 use native.Mathlib.Decide.{decLe}
 use native.Mathlib.Omega.{arith}
-use mathlib.Core.Path.{_≡_, refl, sym, ap, subst}
-use mathlib.Core.Bool.{Bool, not}
+use mathlib.Core.Path.{_≡_, refl, sym, ap₂, _∙_, subst}
+use mathlib.Core.Bool.{Bool, true, false, not}
 use mathlib.Core.Logic.{inl, inr}
 use mathlib.Core.Option.{none, some}
 use mathlib.Core.List.{List, [], _∷_, List·Memᴰ}
-use lib.Dec.{T, leb, leb→le, le→leb, T-not}
+use lib.Dec.{T, leb, leb→le, le→leb}
 use lib.ListN.{length, take}
 use lib.Seq.{take-all}
 use Rattle.numbers.specs.Tests.{All}
@@ -16,7 +16,7 @@ use Rattle.numbers.proofs.TestLaws.{by-test, pick-yes, pick-no, tests}
 use Rattle.book.specs.declared.Order.{Order}
 use Rattle.book.specs.rules.Orders.{reduced, without}
 use Rattle.book.specs.rules.Matching.{reaches, afterTrade, meeting, Matched, matching}
-use Rattle.book.specs.rules.Fill.{sharesReached, allReached, suffices, leastBelow, frontLength}
+use Rattle.book.specs.rules.Fill.{sharesReached, allReached, suffices, leastBelow, frontLength, frontRead}
 use Rattle.book.proofs.definitions.OrderLaws.{Distinct, TakenOut, here, there, mem-taken, insert-taken}
 use Rattle.book.proofs.definitions.CounterpartyLaws.{Unreached, Reached}
 use Rattle.book.proofs.definitions.MatchingLaws.{meeting-distinct, matching-keeps, matching-ends, unread}
@@ -53,48 +53,62 @@ take-reached zero w os = omega arith
 take-reached (suc k) w [] = omega arith
 take-reached (suc k) w (o ∷ os) = omega (arith, take-reached k w os)
 
-all-suffice : (k n : ℕ) (w : Order) (os : List Order) → T (suffices n w (take k os)) → T (suffices n w os)
-unfolding suffices
-all-suffice k n w os t = le→leb n (allReached w os) (omega (arith, leb→le n (allReached w (take k os)) t, take-reached k w os))
+module _ (w : Order) (os : List Order) where
+  abbrev enough : List Order → Bool
+  enough l = leb (w .shares) (allReached w l)
 
-module _ (n : ℕ) (w : Order) (os : List Order) where
+  abbrev front : List Order
+  front = take (frontRead w os .read) os
+
+  -- the yes or no is that of the whole book
+  pub front-full : frontRead w os .full ≡ leb (w .shares) (allReached w os)
+  unfolding frontRead suffices
+  front-full = refl
+
   -- no more orders are read than there are
-  pub front-bound : frontLength n w os ≤ length os
-  unfolding frontLength
-  front-bound = least-bound (length os) (λ k. suffices n w (take k os))
+  pub front-bound : frontRead w os .read ≤ length os
+  unfolding frontRead frontLength
+  front-bound = least-bound (length os) (λ k. suffices (w .shares) w (take k os))
 
-  short-suffices : frontLength n w os < length os → T (suffices n w (take (frontLength n w os) os))
-  unfolding frontLength
-  short-suffices l = least-passes (length os) (λ k. suffices n w (take k os)) l
+  -- no shorter front suffices
+  pub front-shortest : (j : ℕ) → j < frontRead w os .read → T (not (leb (w .shares) (allReached w (take j os))))
+  unfolding frontRead frontLength suffices
+  front-shortest j l = least-first (length os) (λ k. enough (take k os)) j l
 
-  -- where the whole book suffices, that front does
-  pub front-suffices : T (suffices n w os) → T (suffices n w (take (frontLength n w os) os))
-  front-suffices t = go (decLe (length os) (frontLength n w os))
+  -- one that is shorter than the book does
+  short-enough : frontRead w os .read < length os → T (enough front)
+  unfolding frontRead frontLength suffices
+  short-enough l = least-passes (length os) (λ k. enough (take k os)) l
+
+  -- for a yes it suffices
+  pub front-enough : frontRead w os .full ≡ true → T (leb (w .shares) (allReached w (take (frontRead w os .read) os)))
+  front-enough e = go (decLe (length os) (frontRead w os .read))
     where
-      go : Dec (length os ≤ frontLength n w os) → T (suffices n w (take (frontLength n w os) os))
-      go (yes l) = subst (λ (x : List Order). T (suffices n w x)) (sym (take-all (frontLength n w os) os l)) t
-      go (no l) = short-suffices (omega arith)
+      go : Dec (length os ≤ frontRead w os .read) → T (enough front)
+      go (yes l) = subst (λ (x : List Order). T (enough x)) (sym (take-all (frontRead w os .read) os l)) (subst T (sym (sym front-full ∙ e)) tt)
+      go (no l) = short-enough (omega arith)
 
-  -- no shorter one does
-  pub front-shortest : (j : ℕ) → j < frontLength n w os → T (not (suffices n w (take j os)))
-  unfolding frontLength
-  front-shortest j l = least-first (length os) (λ k. suffices n w (take k os)) j l
-
-  -- where it doesn't, the whole book is read
-  pub front-whole : T (not (suffices n w os)) → frontLength n w os ≡ length os
-  front-whole t = go (decLe (length os) (frontLength n w os))
+  -- for a no it is the whole book
+  pub front-whole : frontRead w os .full ≡ false → frontRead w os .read ≡ length os
+  front-whole e = go (decLe (length os) (frontRead w os .read))
     where
-      go : Dec (length os ≤ frontLength n w os) → frontLength n w os ≡ length os
+      go : Dec (length os ≤ frontRead w os .read) → frontRead w os .read ≡ length os
       go (yes l) = omega (arith, front-bound)
-      go (no l) = absurd (T-not (suffices n w os) t (all-suffice (frontLength n w os) n w os (short-suffices (omega arith))))
+      go (no l) =
+          let k = leb→le (w .shares) (allReached w front) (short-enough (omega arith)) in
+          absurd (subst T (sym front-full ∙ e) (le→leb (w .shares) (allReached w os) (omega (arith, k, take-reached (frontRead w os .read) w os))))
 
 -- matching
 
--- the order with fewer shares reaches the same
-reached-reduced : (q : ℕ) (w : Order) (os : List Order) → allReached (reduced q w) os ≡ allReached w os
-unfolding allReached sharesReached reaches
-reached-reduced q w [] = refl
-reached-reduced q w (o ∷ os) = ap (λ (k : ℕ). sharesReached w o + k) (reached-reduced q w os)
+-- whom an order reaches rests on its mark and its price alone
+share-alike : (w x o : Order) → w.mark ≡ x.mark → w.price ≡ x.price → sharesReached w o ≡ sharesReached x o
+unfolding sharesReached reaches
+share-alike w x o m p = rw (m, p)
+
+pub reached-alike : (w x : Order) → w.mark ≡ x.mark → w.price ≡ x.price → (os : List Order) → allReached w os ≡ allReached x os
+unfolding allReached
+reached-alike w x m p [] = refl
+reached-alike w x m p (o ∷ os) = ap₂ (λ (j k : ℕ). j + k) (share-alike w x o m p) (reached-alike w x m p os)
 
 taken-reached : (w : Order) {o : Order} {os rs : List Order} → TakenOut o os rs → allReached w os ≡ sharesReached w o + allReached w rs
 unfolding allReached
@@ -137,7 +151,7 @@ matching-left w os d = go (matching-ends w os d) (matching-keeps unread Kept kee
     keeps : (x o : Order) (l : List Order) (a : Unit {0}) → Reached x l (some o) → Kept x l a → Kept ((meeting x o l) .left) ((meeting x o l) .orders) a
     keeps x o l a r k =
         let q : ℕ = min (x .shares) (o .shares) in
-        (meeting-distinct x o l (r .0) (k .0), omega (arith, k .1, reached-reduced q x (afterTrade o q l), trade-reached q x (r .0) (k .0) (r .1) (omega arith)))
+        (meeting-distinct x o l (r .0) (k .0), omega (arith, k .1, reached-alike (reduced q x) x refl refl (afterTrade o q l), trade-reached q x (r .0) (k .0) (r .1) (omega arith)))
 
     go : let m : Matched = matching w os in Reached (m .left) (m .orders) none → (m .left .shares - allReached (m .left) (m .orders) ≡ w.shares - allReached w os) → m .left .shares ≡ w.shares - allReached w os
     go (inl e) h = omega (arith, e, h)

@@ -22,7 +22,7 @@ use Rattle.engine.specs.rules.Reports.{Report}
 use Rattle.engine.specs.rules.Venue.{Venue, opened, lastIdAfter}
 use Rattle.engine.specs.rules.Refusals.{leastBuffer, refusal}
 use Rattle.engine.specs.rules.Run.{Step, stepUnless, step, Call, Run, run}
-use Rattle.engine.specs.rules.Records.{recordNumbers, reportsBytes}
+use Rattle.engine.specs.rules.Records.{recordNumbers, reportsBytes, reportsUpTo}
 use Rattle.engine.specs.claims.RoundTrips.{Word, ReportWords}
 use Rattle.engine.specs.rules.Layout.{venueOf, soundWords, stepIn}
 use Rattle.engine.specs.rules.Answers.{countOf, bufferAfter}
@@ -71,10 +71,14 @@ event-lastId v (tape p) i h = i
 event-lastId v (dayEnd c) i h = i
 
 -- the buffer after a call reads back as its answer
-buffer-reads : (e : Event) (b : List ℕ) (x : Outcome (List Report)) → Readable (length b) x → readOf e (bufferAfter b x) (countOf x) ≡ some (record { event = e; answer = x })
-buffer-reads e b (gives rs) h =
+
+pub bytes-read : (b : List ℕ) (rs : List Report) → Readable (length b) (gives rs) → reportsUpTo (overwrite b 0 (reportsBytes rs)) (length (reportsBytes rs)) ≡ some rs
+bytes-read b rs h =
     let new : List ℕ = reportsBytes rs in
-    ap (withReports e) (all-reports-read-back (overwrite b 0 new) (length new) rs (h .0, subst (λ (m : ℕ). Stands (overwrite b 0 new) 0 new m) (omega arith) (overwrite-stands b 0 new (omega (arith, h .1)))))
+    all-reports-read-back (overwrite b 0 new) (length new) rs (h .0, subst (λ (m : ℕ). Stands (overwrite b 0 new) 0 new m) (omega arith) (overwrite-stands b 0 new (omega (arith, h .1))))
+
+buffer-reads : (e : Event) (b : List ℕ) (x : Outcome (List Report)) → Readable (length b) x → readOf e (bufferAfter b x) (countOf x) ≡ some (record { event = e; answer = x })
+buffer-reads e b (gives rs) h = ap (withReports e) (bytes-read b rs h)
 buffer-reads e b (refuses k) h = refl
 
 -- a chain is a run

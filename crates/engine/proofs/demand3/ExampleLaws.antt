@@ -1,4 +1,4 @@
--- The twelve sums, the one day and the slides of document 01, a day of market orders, one at a step of 50 and entries with bad codes, by computation. Assumes nothing.
+-- The twelve sums, the one day and the slides of document 01, a day of market orders, one at a step of 50, entries with bad codes and questions whether an entry would fill, by computation. Assumes nothing.
 use mathlib.Core.Path.{refl}
 use Rattle.numbers.specs.Tests
 use Rattle.numbers.specs.SevenBit
@@ -7,6 +7,7 @@ use Rattle.prices.specs.Restriction
 use Rattle.prices.specs.Watch
 use Rattle.book.specs.rules.Orders
 use Rattle.book.specs.rules.Matching
+use Rattle.book.specs.rules.Fill as front
 use Rattle.book.specs.rules.Sound as order-conditions
 use Rattle.engine.specs.rules.Market
 use Rattle.engine.specs.rules.Working
@@ -15,7 +16,8 @@ use Rattle.engine.specs.rules.Venue
 use Rattle.engine.specs.rules.Sound
 use Rattle.engine.specs.rules.Refusals
 use Rattle.engine.specs.rules.Run
-use Rattle.engine.specs.claims.Examples.{TwelveSums, HalfCentSums, Played, CodesInOrder, OtherSteps}
+use Rattle.engine.specs.rules.Fill
+use Rattle.engine.specs.claims.Examples.{TwelveSums, HalfCentSums, Played, CodesInOrder, FillsTold, OtherSteps}
 
 pub twelve-sums : TwelveSums
 unfolding Prices.permitted Restriction.triggers SevenBit.byteCount SevenBit.bytesOf SevenBit.groups Tests.pick
@@ -33,6 +35,10 @@ played =
 pub codes-in-order : CodesInOrder
 unfolding Tests.pick Tests.every Prices.isStep Prices.legal Prices.isBid order-conditions.idsRise order-conditions.stampsDiffer Venue.opened Sound.sound Refusals.refuseUnless Refusals.firstOf Refusals.refusalOfTerms Refusals.refusalOfCodes Refusals.refusalOfPlace Refusals.refusalOfKind Refusals.refusal Run.stepUnless Run.step Run.run
 codes-in-order = (refl, (refl, tt))
+
+pub fills-told : FillsTold
+unfolding Tests.pick Tests.every Prices.isStep Prices.legal Prices.isBid Prices.permitted Restriction.triggers Restriction.phaseAfterTape Restriction.phaseAfterDayEnd Restriction.restrictionOn Orders.find Orders.ifSame Orders.restingShares Orders.without Orders.insert Matching.reaches Matching.better Matching.betterOf Matching.bestFrom Matching.best Matching.counterparty Matching.execution Matching.afterTrade Matching.meeting Matching.matchingWith Matching.matchingUpTo Matching.matching order-conditions.idsRise order-conditions.stampsDiffer order-conditions.soundOrder Market.restricted Market.permittedNow Working.limitOf Working.followsBid Working.lifeOf Working.workingPrice Working.orderOf Working.remainder Working.afterRemainder Working.work Pass.displayedClear Pass.moveDown Pass.slideOnce Pass.slideDown Pass.maySlide Pass.moveOf Pass.afterMove Pass.passOne Pass.passOver Venue.opened Venue.entering Venue.effectOfEntry Venue.effectOfCancel Venue.thePass Venue.restrictionReport Venue.effectOfDayEnd Venue.effectOf Sound.sound Refusals.refuseUnless Refusals.firstOf Refusals.refusalOfTerms Refusals.refusalOfCodes Refusals.refusalOfPlace Refusals.rests Refusals.refusalOfKind Refusals.refusal Run.stepUnless Run.step Run.run Refusals.refusalOfAsked front.sharesReached front.allReached front.suffices front.leastBelow front.frontLength front.frontRead Fill.askedOrder Fill.fillUnless Fill.wouldFill
+fills-told = record { cents = refl; halfCents = refl; empty = refl; broken = refl }
 
 pub other-steps : OtherSteps
 unfolding Tests.pick Tests.every Prices.isStep Prices.atStep Prices.permittedOf Watch.watchOutcome order-conditions.idsRise order-conditions.stampsDiffer Venue.opened Venue.opening Sound.sound Refusals.refuseUnless Refusals.refusal Run.stepUnless Run.step

@@ -1,7 +1,7 @@
--- Document 01, "Twelve sums, and one day", a day of market orders, one at a step of 50 and entries with bad codes, as statements about the definitions. Assumes nothing.
+-- Document 01, "Twelve sums, and one day", a day of market orders, one at a step of 50, entries with bad codes and questions whether an entry would fill, as statements about the definitions. Assumes nothing.
 use Prim.Native.Nat.{ℕ}
 use mathlib.Core.Path.{_≡_}
-use mathlib.Core.Bool.{Bool, not}
+use mathlib.Core.Bool.{Bool, true, false, not}
 use mathlib.Core.List.{List, [], _∷_, map, foldl}
 use lib.Dec.{T, eqb}
 use Rattle.numbers.specs.Tests.{conj, All}
@@ -10,12 +10,14 @@ use Rattle.numbers.specs.SevenBit.{byteCount}
 use Rattle.prices.specs.Prices.{isBid, permitted, permittedOf}
 use Rattle.prices.specs.Restriction.{triggers}
 use Rattle.prices.specs.Watch.{watchOutcome}
+use Rattle.book.specs.declared.FrontRead.{FrontRead}
 use Rattle.engine.specs.declared.Event.{Event}
 use Rattle.engine.specs.declared.Event.the-variants.{Entry as entry, Cancel as cancel, Bid as bid, Tape as tape, DayEnd as dayEnd}
 use Rattle.engine.specs.rules.Reports.{Report, accepted, executed, cancelled, repriced, restrictionStarts, dayEnded}
-use Rattle.engine.specs.rules.Venue.{opened, opening}
+use Rattle.engine.specs.rules.Venue.{Venue, opened, opening}
 use Rattle.engine.specs.rules.Refusals.{leastBuffer}
 use Rattle.engine.specs.rules.Run.{Call, Answered, step, run}
+use Rattle.engine.specs.rules.Fill.{wouldFill}
 
 -- "Shown together by one check of the definitions"
 abbrev pub twelveSums : List Bool
@@ -163,6 +165,62 @@ firstBad = 18 ∷ 5 ∷ 5 ∷ 19 ∷ 20 ∷ 20 ∷ 19 ∷ 6 ∷ 18 ∷ 3 ∷ 4 �
 
 abbrev pub CodesInOrder : Type 0
 CodesInOrder = All (λ (s : ℕ). answersAt s badEntries ≡ map refuses firstBad) (100 ∷ 50 ∷ [])
+
+-- would it fill (No. 4), a mark, a price and shares asked of books of a restricted day, and the answers worked out by hand
+pub record Question : Type 0 where
+  pub mark : ℕ
+  pub price : ℕ
+  pub shares : ℕ
+
+abbrev pub ask : ℕ → ℕ → ℕ → Question
+ask mark price shares = record { mark = mark; price = price; shares = shares }
+
+abbrev pub toldTo : Venue → List Question → List (Outcome FrontRead)
+toldTo v qs = map (λ (q : Question). wouldFill v (q .mark) (q .price) (q .shares)) qs
+
+abbrev pub yes : ℕ → Outcome FrontRead
+yes n = gives (record { full = true; read = n })
+
+abbrev pub no : ℕ → Outcome FrontRead
+no n = gives (record { full = false; read = n })
+
+-- a restricted short reaches the orders 3 and 4 alone, at 91,100
+abbrev pub fillEvents : List Event
+fillEvents = restrictedDay (entryOf 1 0 90_900 100 1 0 0 ∷ entryOf 2 1 91_500 50 1 0 0 ∷ entryOf 3 0 91_200 300 1 0 0 ∷ entryOf 4 0 91_100 200 1 0 0 ∷ [])
+
+abbrev pub fillQuestions : List Question
+fillQuestions =
+    ask 2 90_000 300 ∷ ask 2 90_000 400 ∷ ask 2 90_000 501 ∷ ask 2 0 500 ∷ ask 1 90_000 100 ∷ ask 0 91_500 50 ∷ ask 0 0 51
+    ∷ ask 9 90_050 0 ∷ ask 9 0 0 ∷ ask 9 0 1 ∷ []
+
+abbrev pub fillAnswers : List (Outcome FrontRead)
+fillAnswers = yes 3 ∷ yes 4 ∷ no 4 ∷ yes 4 ∷ yes 1 ∷ yes 2 ∷ no 4 ∷ refuses 3 ∷ refuses 4 ∷ refuses 18 ∷ []
+
+-- at a step of 50, where it reaches a hidden order at 91,050 too
+abbrev pub halfCentFillEvents : List Event
+halfCentFillEvents =
+    restrictedDay (entryOf 1 0 90_900 100 1 0 0 ∷ entryOf 2 1 91_500 50 1 0 0 ∷ entryOf 3 0 91_200 300 1 0 0 ∷ entryOf 4 0 91_050 200 0 0 0 ∷ [])
+
+abbrev pub halfCentQuestions : List Question
+halfCentQuestions =
+    ask 2 90_000 500 ∷ ask 2 91_050 500 ∷ ask 2 91_100 301 ∷ ask 3 90_000 600 ∷ ask 3 90_000 601 ∷ ask 9 90_025 0 ∷ ask 9 90_050 0 ∷ []
+
+abbrev pub halfCentFillAnswers : List (Outcome FrontRead)
+halfCentFillAnswers = yes 4 ∷ yes 4 ∷ no 4 ∷ yes 4 ∷ no 4 ∷ refuses 3 ∷ refuses 4 ∷ []
+
+-- a record with phase 3
+abbrev pub brokenVenue : Venue
+brokenVenue =
+    record { market = record { close = 100_000; phase = 3; bid = 91_000; step = 100 }; orders = []; lastId = 0; lastStamp = 0; acceptedEvents = 2 }
+
+abbrev pub venueAfterAt : ℕ → List Event → Venue
+venueAfterAt s es = (run (opened s 100_000) (map callOf es)) .venue
+
+pub record FillsTold : Type 0 where
+  pub cents : toldTo (venueAfterAt 100 fillEvents) fillQuestions ≡ fillAnswers
+  pub halfCents : toldTo (venueAfterAt 50 halfCentFillEvents) halfCentQuestions ≡ halfCentFillAnswers
+  pub empty : wouldFill (opened 100 100_000) 0 0 1 ≡ no 0
+  pub broken : wouldFill brokenVenue 9 90_050 0 ≡ refuses 16
 
 -- other steps than 50 and 100 (No. 2), beside a close, a bid and a price that are refused at every step: "refused with 17, before the close or price is looked
 -- at"; in a venue record whose close is legal by itself "it is a broken condition"

@@ -1,0 +1,302 @@
+-- No. 4: the count of orders read, the refusals of the question, and that its answer is the truth about entries. Assumes nothing.
+use Prim.Native.Nat.{ℕ, _+_, _-_, _≤_, _<_, min}
+use native.Mathlib.Omega.{arith}
+use mathlib.Core.Path.{_≡_, refl, sym, ap, _∙_, subst}
+use mathlib.Core.Bool.{Bool, true, false}
+use mathlib.Core.Option.{Option, none, some}
+use mathlib.Core.List.{List, [], _∷_, _++_, map, foldl}
+use lib.Dec.{T, leb, eqb, leb→le, le→leb, eqb→eq}
+use lib.ListN.{length}
+use borrow.Author.Tests.{le-leb, lt-ltb}
+use Rattle.numbers.specs.Tests.{pick, All}
+use Rattle.numbers.specs.Answers.{Outcome, gives, refuses}
+use Rattle.numbers.proofs.TestLaws.{by-test, pick-yes, bool-ext, eq→T}
+use Rattle.book.specs.declared.Order.{Order}
+use Rattle.book.specs.declared.FrontRead.{FrontRead}
+use Rattle.book.specs.rules.Orders.{ifSame}
+use Rattle.book.specs.rules.Matching.{Execution, meeting, Matched, matching}
+use Rattle.book.specs.rules.Sound.{mostShares}
+use Rattle.book.specs.rules.Words.{isBook}
+use Rattle.book.specs.rules.Fill.{allReached, frontRead}
+use Rattle.book.proofs.definitions.ShareLaws.{ifSame-same, ifSame-other}
+use Rattle.book.proofs.definitions.OrderLaws.{idOf, Other, Distinct, taken-all, mem-taken}
+use Rattle.book.proofs.definitions.CounterpartyLaws.{Reached}
+use Rattle.book.proofs.definitions.MeetingLaws.{execution-by, meeting-known}
+use Rattle.book.proofs.definitions.MatchingLaws.{afterTrade-all, afterTrade-differ, matching-keeps}
+use Rattle.book.proofs.definitions.FillLaws.{front-full, front-enough, front-shortest, front-whole, reached-alike, matching-left}
+use Rattle.engine.specs.declared.Market.{Market}
+use Rattle.engine.specs.declared.Entry.{Entry}
+use Rattle.engine.specs.declared.Event.{Event}
+use Rattle.engine.specs.declared.Event.the-variants.{Entry as entry}
+use Rattle.engine.specs.declared.Remainder.{Remainder}
+use Rattle.engine.specs.declared.Remainder.the-variants.{Filled, Cancelled, Rests}
+use Rattle.engine.specs.rules.Reports.{Report, executed}
+use Rattle.engine.specs.rules.Working.{orderOf, remainder, afterRemainder, work}
+use Rattle.engine.specs.rules.Venue.{Venue, entering, effectOfEntry, effectOf}
+use Rattle.engine.specs.rules.Sound.{mostEvents, sound}
+use Rattle.engine.specs.rules.Refusals.{refuseUnless, firstOf, refusalOfTerms, refusalOfOtherCodes, refusalOfCodes, refusalOfAsked, refusalOfPlace, refusalOfKind, leastBuffer, refusal}
+use Rattle.engine.specs.rules.Run.{Step, stepUnless, step}
+use Rattle.engine.specs.rules.Records.{reportsBytes}
+use Rattle.engine.specs.rules.Answers.{countOf, bufferAfter}
+use Rattle.engine.specs.rules.Layout.{venueOf, stepIn}
+use Rattle.engine.specs.rules.Fill.{askedOrder, fillUnless, wouldFill, wouldFillIn, outcomeOfFill}
+use Rattle.engine.specs.claims.Fill.{ReadShortest, ReadsShortest, NothingElseMatters, refusalGiven, ofVenueOrTerms, RefusedAsEntries, RefusedAsEntriesInCalls, executedBy, executedFor, TrueOf, TellsTheTruth, TrueOfBytes, TellsTheTruthOfCalls}
+use Rattle.engine.proofs.refinement.RefuseLaws.{refuse-yes}
+use Rattle.engine.proofs.refinement.RefusalLaws.{NotRefused, Unless, refusal-known}
+use Rattle.engine.proofs.refinement.OpeningLaws.{step-in}
+use Rattle.engine.proofs.demand3.SoundLaws.{sound-venue, book-distinct, orderOf-sound}
+use Rattle.engine.proofs.demand3.CallLaws.{Readable, step-readable, bytes-read}
+
+-- The answer by the book
+
+module _ (v : Venue) (mark price shares : ℕ) where
+  abbrev theFront : FrontRead
+  theFront = frontRead (askedOrder (v .market) mark price shares) (v .orders)
+
+  told : (x : Option ℕ) (r : FrontRead) → fillUnless x v mark price shares ≡ gives r → theFront ≡ r
+  unfolding fillUnless
+  told none r e = cc
+  told (some n) r e = let z : _≡_ {A = ℕ} 0 1 = cc in absurd (omega arith)
+
+pub reads-shortest : ReadsShortest
+unfolding wouldFill
+reads-shortest v mark price shares r e =
+    let w : Order = askedOrder (v .market) mark price shares in
+    subst
+    (ReadShortest w (v .orders))
+    (told v mark price shares _ r e)
+    (record { whole = front-full w (v .orders); enough = front-enough w (v .orders); shortest = front-shortest w (v .orders); all = front-whole w (v .orders) })
+
+same-told : (x : Option ℕ) (v u : Venue) → v.market ≡ u.market → v.orders ≡ u.orders → (mark price shares : ℕ) → fillUnless x v mark price shares ≡ fillUnless x u mark price shares
+unfolding fillUnless
+same-told none v u m o mark price shares = rw (m, o)
+same-told (some n) v u m o mark price shares = refl
+
+pub nothing-else-matters : NothingElseMatters
+unfolding wouldFill
+nothing-else-matters v u s m o mark price shares =
+    ap (λ (b : Bool). fillUnless (refuseUnless b 16 (refusalOfAsked (v.market.step) mark price shares)) v mark price shares) s
+    ∙ ap (λ (k : Market). fillUnless (refuseUnless (sound u) 16 (refusalOfAsked (k .step) mark price shares)) v mark price shares) m
+    ∙ same-told _ v u m o mark price shares
+
+-- Its refusals
+
+asked-later : (b : Bool) (n : ℕ) (later : Option ℕ) → ofVenueOrTerms (some n) ≡ some n → ofVenueOrTerms (refuseUnless b n later) ≡ refuseUnless b n (ofVenueOrTerms later)
+unfolding refuseUnless
+asked-later true n later k = refl
+asked-later false n later k = k
+
+others-later : (b : Bool) (n : ℕ) (later : Option ℕ) → ofVenueOrTerms (some n) ≡ none → ofVenueOrTerms later ≡ none → ofVenueOrTerms (refuseUnless b n later) ≡ none
+unfolding refuseUnless
+others-later true n later k h = h
+others-later false n later k h = k
+
+asked-first : (r later : Option ℕ) → ofVenueOrTerms r ≡ r → ofVenueOrTerms (firstOf r later) ≡ firstOf r (ofVenueOrTerms later)
+unfolding firstOf
+asked-first none later k = refl
+asked-first (some n) later k = k
+
+others-first : (r later : Option ℕ) → ofVenueOrTerms r ≡ none → ofVenueOrTerms later ≡ none → ofVenueOrTerms (firstOf r later) ≡ none
+unfolding firstOf
+others-first none later k h = h
+others-first (some n) later k h = k
+
+none-asked : ofVenueOrTerms none ≡ none
+unfolding ofVenueOrTerms
+none-asked = refl
+
+terms-asked : (s price shares : ℕ) → ofVenueOrTerms (refusalOfTerms s price shares) ≡ refusalOfTerms s price shares
+unfolding refusalOfTerms ofVenueOrTerms pick
+terms-asked s price shares =
+    asked-later _ 3 _ refl ∙ rw (asked-later (leb 1 shares) 4 _ refl, asked-later (leb shares mostShares) 4 none refl)
+
+codes-others : (e : Entry) → ofVenueOrTerms (refusalOfOtherCodes e) ≡ none
+unfolding ofVenueOrTerms pick
+codes-others e = others-later _ 5 _ refl (others-later _ 5 _ refl (others-later _ 19 _ refl (others-later _ 20 none refl refl)))
+
+place-others : (v : Venue) (id : ℕ) → ofVenueOrTerms (refusalOfPlace v id) ≡ none
+unfolding refusalOfPlace ofVenueOrTerms pick
+place-others v id = others-later _ 6 _ refl (others-later _ 7 none refl refl)
+
+codes-and-place : (b : Bool) (codes place : Option ℕ) → ofVenueOrTerms codes ≡ none → ofVenueOrTerms place ≡ none → ofVenueOrTerms (firstOf (refuseUnless b 18 codes) place) ≡ refuseUnless b 18 none
+unfolding refuseUnless firstOf ofVenueOrTerms pick
+codes-and-place true codes place c p = others-first codes place c p
+codes-and-place false codes place c p = refl
+
+kind-asked : (v : Venue) (e : Entry) → ofVenueOrTerms (refusalOfKind v (entry e)) ≡ refusalOfAsked (v.market.step) (e .mark) (e .price) (e .shares)
+unfolding refusalOfKind refusalOfAsked refusalOfCodes
+kind-asked v e =
+    asked-first (refusalOfTerms (v.market.step) (e .price) (e .shares)) _ (terms-asked (v.market.step) (e .price) (e .shares))
+    ∙ ap (firstOf (refusalOfTerms (v.market.step) (e .price) (e .shares))) (codes-and-place _ (refusalOfOtherCodes e) (refusalOfPlace v (e .id)) (codes-others e) (place-others v (e .id)))
+
+refusal-asked : (v : Venue) (e : Entry) (n : ℕ) → leastBuffer ≤ n → v.acceptedEvents < mostEvents → ofVenueOrTerms (refusal v (entry e) n) ≡ refuseUnless (sound v) 16 (refusalOfAsked (v.market.step) (e .mark) (e .price) (e .shares))
+unfolding refusal ofVenueOrTerms pick
+refusal-asked v e n b a =
+    asked-later (sound v) 16 _ refl ∙ ap (refuseUnless (sound v) 16) (ap ofVenueOrTerms (refuse-yes _ 1 _ (le-leb leastBuffer n b) ∙ refuse-yes _ 2 _ (lt-ltb (v .acceptedEvents) mostEvents a)) ∙ kind-asked v e)
+
+-- what was answered says what was refused
+
+fill-given : (x : Option ℕ) (v : Venue) (mark price shares : ℕ) → refusalGiven (fillUnless x v mark price shares) ≡ x
+unfolding fillUnless
+fill-given none v mark price shares = refl
+fill-given (some n) v mark price shares = refl
+
+step-given : (x : Option ℕ) (v : Venue) (e : Entry) → refusalGiven (stepUnless x v (entry e) .answer) ≡ x
+unfolding stepUnless
+step-given none v e = refl
+step-given (some n) v e = refl
+
+pub refused-as-entries : RefusedAsEntries
+unfolding wouldFill step
+refused-as-entries v e n b a =
+    fill-given _ v (e .mark) (e .price) (e .shares) ∙ sym (refusal-asked v e n b a) ∙ ap ofVenueOrTerms (sym (step-given (refusal v (entry e) n) v e))
+
+-- The truth about entries
+
+executed-append : (k : ℕ) (rs qs : List Report) → executedFor k (rs ++ qs) ≡ executedFor k rs + executedFor k qs
+unfolding executedFor
+executed-append k [] qs = omega arith
+executed-append k (r ∷ rs) qs = omega (arith, executed-append k rs qs)
+
+-- read one after another
+abbrev readFor : ℕ → ℕ → Execution → ℕ
+readFor k n x = n + executedBy k (executed x)
+
+executed-read : (k n : ℕ) (xs : List Execution) → foldl (readFor k) n xs ≡ n + executedFor k (map executed xs)
+unfolding executedFor
+executed-read k n [] = omega arith
+executed-read k n (x ∷ xs) = omega (arith, executed-read k (readFor k n x) xs)
+
+remainder-executed : (k : ℕ) (x : Remainder) (w : Order) (os : List Order) → executedFor k ((afterRemainder x w os) .reports) ≡ 0
+unfolding executedFor afterRemainder
+remainder-executed k Filled w os = refl
+remainder-executed k (Cancelled cause) w os = refl
+remainder-executed k Rests w os = refl
+
+-- matching executes for a working order what it takes of its shares
+matching-executed : (w : Order) (os : List Order) → All (Other (w .id)) os → Distinct os → let m : Matched = matching w os in executedFor (w .id) (map executed (m .executions)) + m .left .shares ≡ w.shares
+matching-executed w os h d =
+    let m : Matched = matching w os in
+    omega (arith, executed-read (w .id) 0 (m .executions), matching-keeps (readFor (w .id)) Kept keeps w os 0 (refl, h, d, omega arith) .3)
+  where
+    Kept : Order → List Order → ℕ → Type 0
+    Kept x l n = (x.id ≡ w.id) × All (Other (w .id)) l × Distinct l × (n + x.shares ≡ w.shares)
+
+    keeps : (x o : Order) (l : List Order) (n : ℕ) → Reached x l (some o) → Kept x l n → Kept ((meeting x o l) .left) ((meeting x o l) .orders) (readFor (w .id) n ((meeting x o l) .execution))
+    keeps x o l n r i =
+        let q : ℕ = min (x .shares) (o .shares) in
+        let own : ifSame (w .id) (x .id) q ≡ q = ap (λ (j : ℕ). ifSame (w .id) j q) (i .0) ∙ ifSame-same (w .id) q in
+        let other : ifSame (w .id) (o .id) q ≡ 0 = ifSame-other (w .id) (o .id) q (λ z. taken-all (Other (w .id)) (mem-taken (r .0) (i .2)) (i .1) .0 (sym z)) in
+        rw
+        (meeting-known x o l)
+        (i .0, afterTrade-all q (r .0) (i .2) (Other (w .id)) (λ z s l h. h) (i .1), afterTrade-differ q (r .0) (i .2) idOf refl (i .2), execution-by (λ (y : Execution). readFor (w .id) n y + (x.shares - q) ≡ w.shares) x o q (λ t. omega (arith, own, other, i .3)) (λ t. omega (arith, own, other, i .3)))
+
+work-executed : (w : Order) (os : List Order) → All (Other (w .id)) os → Distinct os → executedFor (w .id) ((work w os) .reports) + (w.shares - allReached w os) ≡ w.shares
+unfolding work
+work-executed w os h d =
+    let m : Matched = matching w os in
+    omega (arith, executed-append (w .id) (map executed (m .executions)) ((afterRemainder (remainder (m .left)) (m .left) (m .orders)) .reports), remainder-executed (w .id) (remainder (m .left)) (m .left) (m .orders), matching-executed w os h d, matching-left w os d)
+
+-- the order that is asked about reaches whom the entry's order reaches, whatever its id, stamp, show, life and slide
+asked-reached : (m : Market) (s : ℕ) (e : Entry) (os : List Order) → allReached (askedOrder m (e .mark) (e .price) (e .shares)) os ≡ allReached (orderOf m s e) os
+unfolding askedOrder orderOf
+asked-reached m s e os = reached-alike (askedOrder m (e .mark) (e .price) (e .shares)) (orderOf m s e) refl refl os
+
+-- an entry that isn't refused
+
+module _ (v : Venue) (e : Entry) (n : ℕ) (r : refusal v (entry e) n ≡ none) where
+  abbrev asked : Order
+  asked = askedOrder (v .market) (e .mark) (e .price) (e .shares)
+
+  abbrev working : Order
+  working = orderOf (v .market) (v .lastStamp + 1) e
+
+  abbrev theReports : List Report
+  theReports = effectOfEntry (v .market) v e .reports
+
+  known : NotRefused v (entry e) n
+  known = subst (λ (x : Option ℕ). Unless x (NotRefused v (entry e) n)) r (refusal-known v (entry e) n)
+
+  -- the question isn't either
+  question-given : wouldFill v (e .mark) (e .price) (e .shares) ≡ gives (frontRead asked (v .orders))
+  unfolding wouldFill fillUnless ofVenueOrTerms
+  question-given =
+      ap (λ (x : Option ℕ). fillUnless x v (e .mark) (e .price) (e .shares)) (sym (refusal-asked v e n (known .buffer) (known .events)) ∙ ap ofVenueOrTerms r)
+
+  work-reports : executedFor (e .id) theReports ≡ executedFor (working .id) (work working (v .orders) .reports)
+  unfolding effectOfEntry entering executedFor orderOf
+  work-reports = omega arith
+
+  -- its reports execute those of its shares that it reaches
+  entry-executed : executedFor (e .id) theReports + (e.shares - allReached asked (v .orders)) ≡ e.shares
+  unfolding orderOf
+  entry-executed =
+      let g = orderOf-sound v e (known .allowed) (sound-venue v (known .sound)) in
+      omega (arith, work-reports, asked-reached (v .market) (v .lastStamp + 1) e (v .orders), work-executed working (v .orders) (g .newId) (book-distinct (g .book)))
+
+  all-executed : leb (e .shares) (allReached asked (v .orders)) ≡ eqb (executedFor (e .id) theReports) (e .shares)
+  all-executed =
+      let k : ℕ = allReached asked (v .orders) in
+      let x : ℕ = executedFor (e .id) theReports in
+      bool-ext (leb (e .shares) k) (eqb x (e .shares)) (λ t. eq→T {m = x} {n = e.shares} (omega (arith, leb→le (e .shares) k t, entry-executed))) (λ t. le→leb (e .shares) k (omega (arith, eqb→eq x (e .shares) t, entry-executed, known .allowed .terms .least)))
+
+  accepted-true : TrueOf e theReports (wouldFill v (e .mark) (e .price) (e .shares))
+  unfolding askedOrder orderOf
+  accepted-true = record { front = frontRead asked (v .orders); answers = question-given; truth = front-full asked (v .orders) ∙ all-executed }
+
+pub tells-the-truth : TellsTheTruth
+unfolding step stepUnless effectOf
+tells-the-truth v e n rs q = go (refusal v (entry e) n) refl q
+  where
+    go : (x : Option ℕ) → refusal v (entry e) n ≡ x → stepUnless x v (entry e) .answer ≡ gives rs → TrueOf e rs (wouldFill v (e .mark) (e .price) (e .shares))
+    go (some k) r z = let y : _≡_ {A = ℕ} 0 1 = cc in absurd (omega arith)
+    go none r z =
+        let y : effectOfEntry (v .market) v e .reports ≡ rs = cc in
+        subst (λ (l : List Report). TrueOf e l (wouldFill v (e .mark) (e .price) (e .shares))) y (accepted-true v e n r)
+
+-- Of the calls
+
+-- on words that are laid out as a venue
+in-words : (w : List ℕ) (mark price shares : ℕ) → T (isBook w) → wouldFillIn w mark price shares ≡ wouldFill (venueOf w) mark price shares
+unfolding wouldFillIn
+in-words w mark price shares t = pick-yes (isBook w) _ _ t
+
+laid-out : (w : List ℕ) (e : Event) (n : ℕ) (rs : List Report) → stepIn w e n .answer ≡ gives rs → T (isBook w)
+unfolding stepIn
+laid-out w e n rs =
+    by-test (λ (s : Step). s .answer ≡ gives rs → T (isBook w)) (isBook w) (λ t q. t) (λ t q. let y : _≡_ {A = ℕ} 0 1 = cc in absurd (omega arith))
+
+pub tells-the-truth-of-calls : TellsTheTruthOfCalls
+tells-the-truth-of-calls w e i b count w′ b′ a told q = go (stepIn w (entry e) (length b) .answer) refl (a .answers) (a .buffer)
+  where
+    go : (x : Outcome (List Report)) → stepIn w (entry e) (length b) .answer ≡ x → gives count ≡ countOf x → b′ ≡ bufferAfter b x → TrueOfBytes e b′ count (outcomeOfFill told)
+    go (refuses k) s c f = let y : _≡_ {A = ℕ} 0 1 = cc in absurd (omega arith)
+    go (gives rs) s c f =
+        let v : Venue = venueOf w in
+        let t : T (isBook w) = laid-out w (entry e) (length b) rs s in
+        let l : count ≡ length (reportsBytes rs) = cc in
+        let z : step v (entry e) (length b) .answer ≡ gives rs = sym (ap (λ (x : Step). x .answer) (step-in w (entry e) (length b) t)) ∙ s in
+        record {
+          read = rs;
+          readable = rw (f, l) (bytes-read b rs (subst (Readable (length b)) z (step-readable v (entry e) (length b) i)));
+          is = subst (TrueOf e rs) (sym (q ∙ in-words w (e .mark) (e .price) (e .shares) t)) (tells-the-truth v e (length b) rs z);
+        }
+
+count-given : (x : Outcome (List Report)) → refusalGiven (countOf x) ≡ refusalGiven x
+count-given (gives rs) = refl
+count-given (refuses n) = refl
+
+-- words that are laid out as no venue are refused with 16 in both
+module _ (w : List ℕ) (e : Entry) (n : ℕ) (l : leastBuffer ≤ n) (a : venueOf w .acceptedEvents < mostEvents) where
+  chosen : (laid : Bool) → refusalGiven (pick laid (wouldFill (venueOf w) (e .mark) (e .price) (e .shares)) (refuses 16)) ≡ ofVenueOrTerms (refusalGiven (pick laid (step (venueOf w) (entry e) n) (record { answer = refuses 16; venue = venueOf w }) .answer))
+  unfolding pick ofVenueOrTerms
+  chosen true = refused-as-entries (venueOf w) e n l a
+  chosen false = refl
+
+  refused-in-words : refusalGiven (wouldFillIn w (e .mark) (e .price) (e .shares)) ≡ ofVenueOrTerms (refusalGiven (stepIn w (entry e) n .answer))
+  unfolding wouldFillIn stepIn
+  refused-in-words = chosen (isBook w)
+
+pub refused-as-entries-in-calls : RefusedAsEntriesInCalls
+refused-as-entries-in-calls w e b answer w′ b′ a l n told q =
+    ap refusalGiven q ∙ refused-in-words w e (length b) l n ∙ ap ofVenueOrTerms (sym (ap refusalGiven (a .answers) ∙ count-given (stepIn w (entry e) (length b) .answer)))

@@ -1,0 +1,116 @@
+-- Document 02, No. 4, would it fill, as claims: the count of orders read, the refusals, and that the answer is the truth about entries. Assumes nothing.
+use Prim.Native.Nat.{ℕ, _+_, _≤_, _<_}
+use mathlib.Core.Path.{_≡_}
+use mathlib.Core.Bool.{Bool, true, false, not, _||_}
+use mathlib.Core.List.{List, [], _∷_}
+use mathlib.Core.Option.{Option, none, some}
+use lib.Dec.{T, leb, eqb}
+use lib.ListN.{length, take}
+use Rattle.numbers.specs.Tests.{pick}
+use Rattle.numbers.specs.Answers.{Outcome, gives, refuses}
+use Rattle.book.specs.declared.Order.{Order}
+use Rattle.book.specs.declared.FrontRead.{FrontRead}
+use Rattle.book.specs.rules.Orders.{ifSame}
+use Rattle.book.specs.rules.Fill.{allReached}
+use Rattle.engine.specs.declared.Entry.{Entry}
+use Rattle.engine.specs.declared.Event.the-variants.{Entry as entry}
+use Rattle.engine.specs.declared.FillAnswer.{FillAnswer}
+use Rattle.engine.specs.rules.Reports.{Report, accepted, executed, cancelled, repriced, restrictionStarts, dayEnded}
+use Rattle.engine.specs.rules.Venue.{Venue}
+use Rattle.engine.specs.rules.Sound.{mostEvents, sound}
+use Rattle.engine.specs.rules.Refusals.{leastBuffer}
+use Rattle.engine.specs.rules.Run.{step}
+use Rattle.engine.specs.rules.Records.{reportsUpTo}
+use Rattle.engine.specs.rules.Layout.{venueOf}
+use Rattle.engine.specs.rules.Fill.{askedOrder, wouldFill, wouldFillIn, outcomeOfFill}
+use Rattle.engine.specs.claims.RoundTrips.{Word}
+use Rattle.engine.specs.claims.Calls.{Applied}
+
+-- The answer by the book
+
+-- the order w would fill in full: those of the orders that it reaches have its shares
+abbrev pub fillsFrom : Order → List Order → Bool
+fillsFrom w os = leb (w .shares) (allReached w os)
+
+-- "The yes or no equals the one from the whole book. The result carries the count of orders read, equal to the shortest front of the book that suffices, or
+-- the whole book."
+pub record ReadShortest (w : Order) (os : List Order) (r : FrontRead) : Type 0 where
+  pub whole : r.full ≡ fillsFrom w os
+  pub enough : r.full ≡ true → T (fillsFrom w (take (r .read) os))
+  pub shortest : (j : ℕ) → j < r.read → T (not (fillsFrom w (take j os)))
+  pub all : r.full ≡ false → r.read ≡ length os
+
+abbrev pub ReadsShortest : Type 0
+ReadsShortest =
+    (v : Venue) (mark price shares : ℕ) (r : FrontRead) → wouldFill v mark price shares ≡ gives r →
+    ReadShortest (askedOrder (v .market) mark price shares) (v .orders) r
+
+-- "a full book or spent events don't matter to it": nothing does but the venue check, the market and the orders
+abbrev pub NothingElseMatters : Type 0
+NothingElseMatters =
+    (v u : Venue) → sound v ≡ sound u → v.market ≡ u.market → v.orders ≡ u.orders →
+    (mark price shares : ℕ) → wouldFill v mark price shares ≡ wouldFill u mark price shares
+
+-- Its refusals
+
+abbrev pub refusalGiven : {A : Type 0} → Outcome A → Option ℕ
+refusalGiven (gives x) = none
+refusalGiven (refuses n) = some n
+
+-- the refusals of an entry that are for "venue check, price, shares and mark"; any other is read as none
+unfoldable pub ofVenueOrTerms : Option ℕ → Option ℕ
+ofVenueOrTerms none = none
+ofVenueOrTerms (some n) = pick (eqb n 16 || (eqb n 3 || (eqb n 4 || eqb n 18))) (some n) none
+
+-- they "are refused as in an entry": of an entry with a long enough buffer, while events are left
+abbrev pub RefusedAsEntries : Type 0
+RefusedAsEntries =
+    (v : Venue) (e : Entry) (n : ℕ) → leastBuffer ≤ n → v.acceptedEvents < mostEvents →
+    refusalGiven (wouldFill v (e .mark) (e .price) (e .shares)) ≡ ofVenueOrTerms (refusalGiven (step v (entry e) n .answer))
+
+-- the same of the calls
+abbrev pub RefusedAsEntriesInCalls : Type 0
+RefusedAsEntriesInCalls =
+    (w : List ℕ) (e : Entry) (b : List ℕ) (answer : Outcome ℕ) (w′ b′ : List ℕ) → Applied w (entry e) b answer w′ b′ →
+    leastBuffer ≤ length b → venueOf w .acceptedEvents < mostEvents →
+    (told : FillAnswer) → outcomeOfFill told ≡ wouldFillIn w (e .mark) (e .price) (e .shares) →
+    refusalGiven (outcomeOfFill told) ≡ ofVenueOrTerms (refusalGiven answer)
+
+-- The truth about entries
+
+-- the shares that a report executes for an id, and those of a list of reports
+abbrev pub executedBy : ℕ → Report → ℕ
+executedBy k (executed x) = ifSame k (x .buyer) (x .shares) + ifSame k (x .seller) (x .shares)
+executedBy k (accepted i s p) = 0
+executedBy k (cancelled i q z) = 0
+executedBy k (repriced i p s) = 0
+executedBy k restrictionStarts = 0
+executedBy k (dayEnded p) = 0
+
+unfoldable pub executedFor : ℕ → List Report → ℕ
+executedFor k [] = 0
+executedFor k (r ∷ rs) = executedBy k r + executedFor k rs
+
+-- the question wasn't refused, and its answer is yes exactly if the reports execute all shares of the entry e
+pub record TrueOf (e : Entry) (rs : List Report) (answer : Outcome FrontRead) : Type 0 where
+  pub front : FrontRead
+  pub answers : answer ≡ gives front
+  pub truth : front.full ≡ eqb (executedFor (e .id) rs) (e .shares)
+
+-- "tell whether an entry would fill in full now": where an entry is accepted, whatever its show, life and slide, the answer for its mark, price and shares is
+-- true of its reports
+abbrev pub TellsTheTruth : Type 0
+TellsTheTruth =
+    (v : Venue) (e : Entry) (n : ℕ) (rs : List Report) → step v (entry e) n .answer ≡ gives rs →
+    TrueOf e rs (wouldFill v (e .mark) (e .price) (e .shares))
+
+-- the same of the calls, by the report bytes: what would_fill tells of any words is true of the reports of every entry that apply then accepts on them
+pub record TrueOfBytes (e : Entry) (after : List ℕ) (count : ℕ) (answer : Outcome FrontRead) : Type 0 where
+  pub read : List Report
+  pub readable : reportsUpTo after count ≡ some read
+  pub is : TrueOf e read answer
+
+abbrev pub TellsTheTruthOfCalls : Type 0
+TellsTheTruthOfCalls =
+    (w : List ℕ) (e : Entry) → Word (e .id) → (b : List ℕ) (count : ℕ) (w′ b′ : List ℕ) → Applied w (entry e) b (gives count) w′ b′ →
+    (told : FillAnswer) → outcomeOfFill told ≡ wouldFillIn w (e .mark) (e .price) (e .shares) → TrueOfBytes e b′ count (outcomeOfFill told)
