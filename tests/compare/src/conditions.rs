@@ -57,7 +57,7 @@ pub fn broken<'a>(
 }
 
 /// The first that is broken gives the refusal.
-fn refusal_of(conditions: &[Condition], entry: &Entry, venue: &Venue) -> Option<u32> {
+pub fn refusal_of(conditions: &[Condition], entry: &Entry, venue: &Venue) -> Option<u32> {
     let first = broken(conditions, entry, venue).next();
     first.map(|place| conditions[place].refusal)
 }

@@ -4,6 +4,7 @@
 mod account;
 #[cfg(feature = "engine")]
 mod applier;
+mod asked;
 mod bench;
 mod by_cents;
 mod by_limits;
@@ -24,6 +25,7 @@ mod engine;
 #[cfg(test)]
 mod fill_days;
 mod fill_vectors;
+mod fronts;
 #[cfg(test)]
 mod half_cent_days;
 mod half_cents;
@@ -40,6 +42,7 @@ mod odd;
 mod output;
 mod price_rules;
 mod program;
+mod questions;
 mod reached;
 mod refused_entries;
 #[cfg(feature = "engine")]
