@@ -13,13 +13,13 @@ use crate::model::{
     BUY, CENT, LEAST_BUFFER, OPT_OUT, PLACES, SHORT,
 };
 use crate::price_rules;
-use crate::questions::any_question;
+use crate::questions::any_questions;
 use crate::rng::Rng;
 use crate::sessions::{self, ensure, Examiner, Fault};
 use crate::streams::{Call, Session};
 
-/// At so many events, on average, a random question is asked.
-const EVENTS_A_QUESTION: u32 = 2;
+/// The most questions before an event of most venues.
+const QUESTIONS: u32 = 1;
 
 /// Plays sessions until so many events are over. Gives whether all claims held.
 pub fn run(seed: u64, events: u64) -> bool {
@@ -120,9 +120,9 @@ impl Checked {
     }
 
     fn ask_any(&mut self, counts: &mut Counts) -> Result<(), Fault> {
-        if self.rng.one_in(EVENTS_A_QUESTION) {
-            let asked = any_question(&mut self.rng, &self.before);
-            self.ask(&asked, counts)?;
+        for asked in any_questions(&mut self.rng, &self.before, QUESTIONS) {
+            // Whatever the answer, it was checked.
+            let _ = self.ask(&asked, counts)?;
         }
         Ok(())
     }

@@ -196,9 +196,12 @@ pub fn fill_answer_of(answer: Result<Fill, Refusal>) -> u32 {
     }
 }
 
-/// Whether the engine's answer to a question is a yes.
-pub fn is_yes(answer: u32) -> bool {
-    (YES..2 * YES).contains(&answer)
+/// The yes or no of the engine's answer to a question, or the refusal's number.
+pub fn read_fill_answer(answer: u32) -> Result<bool, u32> {
+    match answer / 65_536 {
+        0 => Ok(answer >= YES),
+        refusal => Err(refusal),
+    }
 }
 
 /// The layout of the header, in whose first word the count of orders stands, and

@@ -5,6 +5,8 @@ mod account;
 #[cfg(feature = "engine")]
 mod applier;
 mod asked;
+#[cfg(feature = "engine")]
+mod asker;
 mod bench;
 mod by_cents;
 mod by_limits;

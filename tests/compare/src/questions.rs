@@ -1,15 +1,31 @@
 //! Questions of No. 4 of document 02 for a venue as it stands.
 
 use crate::fronts::shares_in_reach;
-use crate::model::{Question, Venue, BUY, HIGHEST, MOST_SHARES, SHORT};
+use crate::model::{Question, Venue, BUY, HIGHEST, MOST_EVENTS, MOST_SHARES, PLACES, SHORT};
 use crate::odd::{near_miss, odd_code, odd_number, odd_price};
 use crate::rng::Rng;
 
+/// So many questions are asked at once of a venue that is rare.
+const OF_RARE: usize = 10;
+
+/// Questions to ask of a venue, of most at most so many: a full book and spent
+/// events are there for few events, so more is asked of them.
+pub fn any_questions(rng: &mut Rng, venue: &Venue, most: u32) -> Vec<Question> {
+    let rare = venue.orders.len() == PLACES || venue.accepted == MOST_EVENTS;
+    let count = if rare {
+        OF_RARE
+    } else {
+        rng.up_to(most) as usize
+    };
+    (0..count).map(|_| any_question(rng, venue)).collect()
+}
+
 /// A question that the book has shares for, or nearly; or one with some fields odd.
-pub fn any_question(rng: &mut Rng, venue: &Venue) -> Question {
+fn any_question(rng: &mut Rng, venue: &Venue) -> Question {
+    let (mark, price) = around_an_order(rng, venue);
     let mut asked = Question {
-        mark: rng.pick(&[BUY, BUY, BUY, 1, SHORT, SHORT, SHORT, 3]),
-        price: any_price(rng, venue),
+        mark,
+        price,
         shares: 1,
     };
     if venue.is_sound() {
@@ -21,19 +37,23 @@ pub fn any_question(rng: &mut Rng, venue: &Venue) -> Question {
     asked
 }
 
-/// The price of an order, the bid, market or the highest; at times a number next to
-/// one of these.
-fn any_price(rng: &mut Rng, venue: &Venue) -> u32 {
-    let order = match venue.orders.len() {
-        0 => venue.bid,
-        len => venue.orders[rng.place(len)].price,
+/// A mark, mostly one opposite to an order, and the order's price, the bid, market
+/// or the highest; at times a number next to one of these.
+fn around_an_order(rng: &mut Rng, venue: &Venue) -> (u32, u32) {
+    let (sells, any) = (rng.pick(&[1, SHORT, SHORT, 3]), rng.up_to(3));
+    let (opposite, order) = match venue.orders.len() {
+        0 => (sells, venue.bid),
+        len => match venue.orders[rng.place(len)] {
+            order if order.mark == BUY => (sells, order.price),
+            order => (BUY, order.price),
+        },
     };
     let price = rng.pick(&[order, order, order, order, venue.bid, 0, 0, HIGHEST]);
-    if rng.one_in(12) {
-        near_miss(rng, price)
-    } else {
-        price
-    }
+    let miss = rng.one_in(12);
+    (
+        rng.pick(&[opposite, opposite, opposite, any]),
+        if miss { near_miss(rng, price) } else { price },
+    )
 }
 
 /// What some front of the book has in reach, one share less or one more; or few.
