@@ -6,7 +6,7 @@ use crate::odd::{near_miss, odd_code, odd_number, odd_price};
 use crate::rng::Rng;
 
 /// So many questions are asked at once of a venue that is rare.
-const OF_RARE: usize = 10;
+const OF_RARE: usize = 16;
 
 /// Questions to ask of a venue, of most at most so many: a full book and spent
 /// events are there for few events, so more is asked of them.
