@@ -162,3 +162,235 @@ fn executed(of: u32, reports: &[Report]) -> u32 {
     });
     shares.sum()
 }
+
+#[cfg(test)]
+mod tests {
+    use super::*;
+    use crate::conditions::condition;
+    use crate::model::RecordCheck;
+    use crate::questions::any_questions;
+    use crate::rng::Rng;
+    use crate::streams::show_events;
+
+    /// A wrong version of the rule, and what is wrong with it.
+    type Wrong = (&'static str, Rule);
+
+    /// The conditions of an entry at these places, in this order.
+    fn conditions(places: &[usize]) -> Rule {
+        Rule {
+            conditions: places.iter().map(|&place| CONDITIONS[place]).collect(),
+            ..rule()
+        }
+    }
+
+    /// A condition more before the others.
+    fn also(condition: Condition) -> Rule {
+        let mut wrong = rule();
+        wrong.conditions.insert(0, condition);
+        wrong
+    }
+
+    fn other_refusals() -> Vec<Wrong> {
+        Vec::from([
+            ("18 before 4", conditions(&[0, 2, 1])),
+            ("4 before 3", conditions(&[1, 0, 2])),
+            ("18 before 3", conditions(&[2, 0, 1])),
+            ("no 3", conditions(&[1, 2])),
+            ("no 4", conditions(&[0, 2])),
+            ("7 for a full book", conditions(&[0, 1, 2, 8])),
+            (
+                "3 for a market price",
+                also(condition(3, "market", |entry, _| entry.price == 0)),
+            ),
+            (
+                "2 for spent events",
+                also(condition(2, "spent", |_, venue| {
+                    venue.accepted == 16_777_215
+                })),
+            ),
+        ])
+    }
+
+    type Price = fn(&Question, &Venue) -> u32;
+
+    /// Works at another price where the restriction is on, and at its limit where it
+    /// is off.
+    fn where_restricted(mark: u32, asked: &Question, venue: &Venue, price: u32) -> u32 {
+        match venue.phase {
+            1 | 2 if asked.mark == mark => limit(asked).max(price),
+            _ => limit(asked),
+        }
+    }
+
+    fn other_prices() -> Vec<Wrong> {
+        let wrong: [(&str, Price); 7] = [
+            ("the limit", |asked, _| limit(asked)),
+            ("the bid", |asked, venue| {
+                where_restricted(2, asked, venue, venue.bid)
+            }),
+            ("short exempts restricted", |asked, venue| {
+                where_restricted(3, asked, venue, permitted(venue.step, venue.bid))
+            }),
+            ("free in phase 2", |asked, venue| match venue.phase {
+                2 => limit(asked),
+                _ => working_price(asked, venue),
+            }),
+            ("restricted in phase 0", |asked, venue| match asked.mark {
+                2 => limit(asked).max(permitted(venue.step, venue.bid)),
+                _ => limit(asked),
+            }),
+            ("a market short at 1", |asked, venue| match asked.price {
+                0 => limit(asked),
+                _ => working_price(asked, venue),
+            }),
+            ("a market buy at 0", |asked, venue| match asked.mark {
+                0 => asked.price,
+                _ => working_price(asked, venue),
+            }),
+        ];
+        let version = |working_price| Rule {
+            working_price,
+            ..rule()
+        };
+        wrong.map(|(name, price)| (name, version(price))).to_vec()
+    }
+
+    type Counts = fn(&Order, &Question, u32) -> bool;
+
+    fn other_shares() -> Vec<Wrong> {
+        let wrong: [(&str, Counts); 5] = [
+            ("hidden orders passed over", |order, asked, price| {
+                order.show == 1 && is_in_reach(order, asked, price)
+            }),
+            ("own side counted", |order, asked, price| match asked.mark {
+                0 => order.price <= price,
+                _ => order.price >= price,
+            }),
+            ("equal prices out of reach", |order, asked, price| {
+                order.price != price && is_in_reach(order, asked, price)
+            }),
+            ("everything in reach", |order, asked, _| {
+                (order.mark == 0) != (asked.mark == 0)
+            }),
+            ("limits in place of prices", |order, asked, price| {
+                let price_is_limit = Order {
+                    price: order.limit,
+                    ..*order
+                };
+                is_in_reach(&price_is_limit, asked, price)
+            }),
+        ];
+        let version = |counts| Rule { counts, ..rule() };
+        wrong.map(|(name, counts)| (name, version(counts))).to_vec()
+    }
+
+    type Suffices = fn(u64, u64) -> bool;
+
+    fn other_sums() -> Vec<Wrong> {
+        let wrong: [(&str, Suffices); 2] = [
+            ("more than asked", |found, asked| found > asked),
+            ("one share less is enough", |found, asked| {
+                found + 1 >= asked
+            }),
+        ];
+        let version = |suffices| Rule { suffices, ..rule() };
+        wrong.map(|(name, sum)| (name, version(sum))).to_vec()
+    }
+
+    type Read = fn(&[Order], &[Order], &Question) -> usize;
+
+    fn other_counts() -> Vec<Wrong> {
+        let wrong: [(&str, Read); 5] = [
+            ("one order too many", |front, book, _| {
+                book.len().min(front.len() + 1)
+            }),
+            ("one order too few", |front, _, _| {
+                front.len().saturating_sub(1)
+            }),
+            ("opposite orders only", |front, _, asked| {
+                let opposite = |order: &&Order| (order.mark == 0) != (asked.mark == 0);
+                front.iter().filter(opposite).count()
+            }),
+            ("the whole book", |_, book, _| book.len()),
+            ("a byte", |front, _, _| usize::from(front.len() as u8)),
+        ];
+        let version = |read| Rule { read, ..rule() };
+        wrong.map(|(name, read)| (name, version(read))).to_vec()
+    }
+
+    /// The names of the wrong versions that so many events don't tell from the rule
+    /// at a step.
+    fn untold(seed: u64, step: u32, events: u32) -> Vec<&'static str> {
+        let mut untold = [
+            other_refusals(),
+            other_prices(),
+            other_shares(),
+            other_sums(),
+            other_counts(),
+        ]
+        .concat();
+        let mut rng = Rng::new(!seed);
+        show_events(seed, events, |venue, _, _| {
+            if venue.step != step || untold.is_empty() {
+                return;
+            }
+            for asked in any_questions(&mut rng, venue, 1) {
+                let right = venue.would_fill(&asked, RecordCheck::Done);
+                let right = right.map_err(Refusal::number);
+                untold.retain(|(_, wrong)| wrong.answer(&asked, venue) == right);
+            }
+        });
+        untold.into_iter().map(|(name, _)| name).collect()
+    }
+
+    #[test]
+    fn wrong_versions_are_told_apart() {
+        for seed in [1, 2, 3] {
+            for step in [50, 100] {
+                let names = untold(seed, step, 50_000);
+                assert!(names.is_empty(), "seed {seed}, step {step}: {names:?}");
+            }
+        }
+    }
+
+    /// A buy of 5 shares at 90,000 on an empty book.
+    const BUY: Question = Question {
+        mark: 0,
+        price: 90_000,
+        shares: 5,
+    };
+
+    #[test]
+    fn a_wrong_answer_is_seen() {
+        let venue = Venue::fresh(100, 100_000);
+        let fill = |in_full, read| Ok(Fill { in_full, read });
+        assert_eq!(check(&BUY, &venue, fill(false, 0)), Ok(()));
+        assert!(check(&BUY, &venue, fill(true, 0)).is_err());
+        assert!(check(&BUY, &venue, fill(false, 1)).is_err());
+        assert!(check(&BUY, &venue, Err(Refusal::Price)).is_err());
+    }
+
+    #[test]
+    fn an_answer_that_its_entry_breaks_is_seen() {
+        let entry = entry_of(&BUY);
+        let execution = |shares| Report::Executed {
+            buyer: entry.id,
+            seller: 1,
+            price: 90_000,
+            shares,
+        };
+        let (all, some) = ([execution(2), execution(3)], [execution(4)]);
+        for (yes, reports) in [(true, &all[..]), (false, &some), (false, &[])] {
+            assert_eq!(hold(&entry, Ok(yes), Ok(reports)), Ok(()));
+            assert!(hold(&entry, Ok(!yes), Ok(reports)).is_err());
+            assert!(hold(&entry, Err(3), Ok(reports)).is_err());
+        }
+        assert_eq!(hold(&entry, Err(3), Err(Refusal::Price)), Ok(()));
+        assert!(hold(&entry, Err(4), Err(Refusal::Price)).is_err());
+        assert!(hold(&entry, Ok(true), Err(Refusal::Mark)).is_err());
+        assert_eq!(hold(&entry, Ok(true), Err(Refusal::Full)), Ok(()));
+        assert!(hold(&entry, Err(7), Err(Refusal::Full)).is_err());
+        assert_eq!(hold(&entry, Ok(false), Err(Refusal::Spent)), Ok(()));
+        assert!(hold(&entry, Err(16), Err(Refusal::Spent)).is_err());
+    }
+}
