@@ -204,6 +204,11 @@ pub fn read_fill_answer(answer: u32) -> Result<bool, u32> {
     }
 }
 
+/// The orders read of such an answer.
+pub fn count_read(answer: u32) -> usize {
+    (answer % YES) as usize
+}
+
 /// The layout of the header, in whose first word the count of orders stands, and
 /// in whose last the number of the layout.
 fn header_of(venue: &Venue) -> [u32; HEADER_WORDS] {

@@ -8,6 +8,7 @@ mod asked;
 #[cfg(feature = "engine")]
 mod asker;
 mod bench;
+mod bench_fill;
 mod by_cents;
 mod by_limits;
 #[cfg(feature = "engine")]
