@@ -65,9 +65,11 @@ impl AtStep {
         match answer {
             Ok(fill) => self.answer(asked, venue, fill),
             Err(refusal) => {
+                // Any other is a difference, and counted as one.
                 let is_refusal = |(other, _): &(Refusal, &str)| *other == refusal;
-                let place = REFUSALS.iter().position(is_refusal);
-                self.refused[place.expect("a refusal of a question")] += 1;
+                if let Some(place) = REFUSALS.iter().position(is_refusal) {
+                    self.refused[place] += 1;
+                }
             }
         }
     }

@@ -118,8 +118,12 @@ pub fn shares_in_reach(asked: &Question, venue: &Venue, front: usize) -> u64 {
 /// Checks the answer to a question. "The yes or no equals the one from the whole
 /// book."
 pub fn check(asked: &Question, venue: &Venue, answer: Result<Fill, Refusal>) -> Result<(), Fault> {
-    let found = answer.map_err(Refusal::number);
-    ensure(found == rule().answer(asked, venue), "the answer by fronts")?;
+    let (found, expected) = (answer.map_err(Refusal::number), rule().answer(asked, venue));
+    if found != expected {
+        return Err(format!(
+            "{asked:?}: answered {found:?}, by all fronts {expected:?}"
+        ));
+    }
     if let Ok(fill) = answer {
         let shares = shares_in_reach(asked, venue, venue.orders.len());
         let whole = shares >= asked.shares.into();
