@@ -4,6 +4,8 @@
 use crate::fronts::{limit, shares_in_reach, working_price};
 use crate::model::{Fill, Question, Refusal, Venue, CENT, MOST_EVENTS, PLACES};
 use crate::reached::{self, smaller, Line, Named};
+#[cfg(feature = "engine")]
+use std::cmp::Ordering;
 use std::fmt;
 
 /// What a question or the venue that answers it may be; each is counted by yes and
@@ -26,27 +28,50 @@ const KINDS: [Kind; 9] = [
     }),
 ];
 
-/// The refusals of a question.
-const REFUSALS: [(Refusal, &str); 4] = [
-    (Refusal::VenueRecord, "16"),
-    (Refusal::Price, "3"),
-    (Refusal::Shares, "4"),
-    (Refusal::Mark, "18"),
+/// A refusal of a question, and what else the question may be.
+type Refused = (&'static str, Refusal, fn(&Question) -> bool);
+
+const REFUSED: [Refused; 10] = [
+    ("16", Refusal::VenueRecord, |_| true),
+    ("3", Refusal::Price, |_| true),
+    ("3 with bad shares", Refusal::Price, has_bad_shares),
+    ("3 with a bad mark", Refusal::Price, has_bad_mark),
+    ("3 for 4,294,967,295", Refusal::Price, |asked| {
+        asked.price == u32::MAX
+    }),
+    ("4", Refusal::Shares, |_| true),
+    ("4 with a bad mark", Refusal::Shares, has_bad_mark),
+    ("4 for 4,294,967,295", Refusal::Shares, |asked| {
+        asked.shares == u32::MAX
+    }),
+    ("18", Refusal::Mark, |_| true),
+    ("18 for 4,294,967,295", Refusal::Mark, |asked| {
+        asked.mark == u32::MAX
+    }),
 ];
+
+fn has_bad_shares(asked: &Question) -> bool {
+    !(1..=1_000_000).contains(&asked.shares)
+}
+
+fn has_bad_mark(asked: &Question) -> bool {
+    asked.mark > 3
+}
 
 #[derive(Default)]
 pub struct Asked {
     half_cent: AtStep,
     cent: AtStep,
-    /// Runs with fewer words than a venue; of the engine alone.
-    short_runs: Option<u64>,
+    /// Runs with fewer words than a venue, with as many and with more; of the engine
+    /// alone.
+    runs: Option<[u64; 3]>,
 }
 
 /// The counts at one step.
 #[derive(Default)]
 struct AtStep {
     questions: u64,
-    refused: [u64; REFUSALS.len()],
+    refused: [u64; REFUSED.len()],
     /// By no and yes.
     answers: [u64; 2],
     kinds: [[u64; 2]; KINDS.len()],
@@ -65,10 +90,8 @@ impl AtStep {
         match answer {
             Ok(fill) => self.answer(asked, venue, fill),
             Err(refusal) => {
-                // Any other is a difference, and counted as one.
-                let is_refusal = |(other, _): &(Refusal, &str)| *other == refusal;
-                if let Some(place) = REFUSALS.iter().position(is_refusal) {
-                    self.refused[place] += 1;
+                for (count, (_, other, is_kind)) in self.refused.iter_mut().zip(REFUSED) {
+                    *count += u64::from(refusal == other && is_kind(asked));
                 }
             }
         }
@@ -93,7 +116,7 @@ impl AtStep {
     }
 
     fn lines(&self) -> Vec<Line<&'static str>> {
-        let names = REFUSALS.iter().map(|(_, name)| *name);
+        let names = REFUSED.iter().map(|(name, ..)| *name);
         let [first, several, all] = self.read;
         let yes = [
             (first, "by the first order"),
@@ -149,16 +172,26 @@ impl Asked {
         self.at_step(venue).held[usize::from(yes)] += 1;
     }
 
-    /// Takes a question to a run with fewer words than a venue.
+    /// Takes the length of a run, held against that of a venue.
     #[cfg(feature = "engine")]
-    pub fn ask_short_run(&mut self) {
-        *self.short_runs.get_or_insert_default() += 1;
+    pub fn lend(&mut self, length: Ordering) {
+        let place = match length {
+            Ordering::Less => 0,
+            Ordering::Equal => 1,
+            Ordering::Greater => 2,
+        };
+        self.runs.get_or_insert_default()[place] += 1;
     }
 
     fn lines(&self) -> Vec<Line<&'static str>> {
         let mut lines = smaller(self.half_cent.lines(), self.cent.lines());
-        if let Some(count) = self.short_runs {
-            lines.push(("refused, both steps", vec![(count, "16 for a short run")]));
+        if let Some([short, exact, longer]) = self.runs {
+            let runs = [
+                (short, "too short"),
+                (exact, "just long enough"),
+                (longer, "longer"),
+            ];
+            lines.push(("runs at both steps", runs.to_vec()));
         }
         lines
     }

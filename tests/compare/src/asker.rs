@@ -16,6 +16,7 @@ const QUESTIONS: u32 = 3;
 /// The same answer of both sides, number for number. Gives the engine's.
 pub fn ask(sides: &mut Sides, asked: &Question, counts: &mut Counts) -> Result<u32, Fault> {
     let (venue, words) = sides.lend();
+    counts.asked.lend(words.len().cmp(&engine::VENUE_WORDS));
     let found = engine::would_fill(words, asked);
     let answer = venue.and_then(|venue| venue.would_fill(asked, RecordCheck::Done));
     counts.asked.ask(asked, &sides.venue, answer);
@@ -29,8 +30,9 @@ pub fn ask(sides: &mut Sides, asked: &Question, counts: &mut Counts) -> Result<u
 pub fn ask_any(sides: &mut Sides, rng: &mut Rng, counts: &mut Counts) -> Result<(), Fault> {
     for asked in any_questions(rng, &sides.venue, QUESTIONS) {
         ask(sides, &asked, counts)?;
-        let found = engine::would_fill(sides.lend_short(rng), &asked);
-        counts.asked.ask_short_run();
+        let words = sides.lend_short(rng);
+        counts.asked.lend(words.len().cmp(&engine::VENUE_WORDS));
+        let found = engine::would_fill(words, &asked);
         let expected = engine::fill_answer_of(Err(Refusal::VenueRecord));
         same("would fill, a short run", (asked, found), (asked, expected))?;
         sides.compare_kept("a word after a question to a short run")?;

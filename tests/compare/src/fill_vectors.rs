@@ -149,3 +149,40 @@ fn compare_engine(
     }
     Ok(())
 }
+
+#[cfg(test)]
+mod tests {
+    use super::*;
+
+    fn lines(text: &str) -> Vec<String> {
+        text.lines().map(str::to_owned).collect()
+    }
+
+    /// Close 100,000; bid 91,000; a buy of 200 shares at 91,100.
+    const STREAM: &[u8] = &[
+        0xA0, 0x8D, 6, 3, 0xF8, 0xC6, 5, 1, 2, 0, 0xDC, 0xC7, 5, 0xC8, 1, 1, 0, 0,
+    ];
+
+    #[test]
+    fn questions_after_a_stream() {
+        let asked = lines("1 91100 200\n1 91100 201\n0 0 1\n1 91150 0\n4 0 1");
+        let at_100 = lines("1 1\n2 1\n2 1\n0 3\n0 18");
+        let at_50 = lines("1 1\n2 1\n2 1\n0 4\n0 18");
+        let answers = |step| answer_all(step, STREAM, &asked).expect("answers");
+        assert_eq!((answers(100), answers(50)), (at_100, at_50));
+        for bad in ["", "1 2", "1 2 3 4", "1 2 x", "1  2", "1 2 4294967296"] {
+            assert!(answer_all(100, STREAM, &[bad.to_owned()]).is_err());
+        }
+        assert!(answer_all(100, &STREAM[..STREAM.len() - 1], &asked).is_err());
+    }
+
+    #[test]
+    fn answers_that_differ_are_counted() {
+        let (path, asked) = (Path::new("NAME.bin"), lines("0 0 1\n0 0 2"));
+        let found = lines("2 0\n2 0");
+        assert_eq!(compare(path, &asked, &found, &lines("2 0\n2 0")), 0);
+        assert_eq!(compare(path, &asked, &found, &lines("2 0\n1 0")), 1);
+        assert_eq!(compare(path, &asked, &found, &lines("2 0")), 1);
+        assert_eq!(compare(path, &asked, &found, &lines("2 0\n2 0\n2 0")), 1);
+    }
+}

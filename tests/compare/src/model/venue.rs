@@ -25,7 +25,7 @@ const NOT_IMMEDIATE: u32 = 2;
 const OPTED_OUT: u32 = 3;
 const DAY_END: u32 = 4;
 
-/// Whether an event looks for refusal 16. Skipping is for the benchmark only,
+/// Whether an event or a question looks for refusal 16. Skipping is for the benchmark only,
 /// on venues that are known to be sound.
 #[derive(Clone, Copy, Debug, PartialEq, Eq)]
 pub enum RecordCheck {
