@@ -1,5 +1,7 @@
-//! `bench`: events a second, of the model and, with the feature, the engine.
+//! `bench`: events a second, of the model and, with the feature, the engine; and the
+//! time of a question.
 
+use crate::bench_fill;
 #[cfg(feature = "engine")]
 use crate::engine;
 #[cfg(feature = "engine")]
@@ -8,10 +10,10 @@ use crate::model::{read_record, Progress, RecordCheck, CENT, HALF_CENT, LEAST_BU
 use crate::streams::{trace, Trace};
 use std::time::{Duration, Instant};
 
-const SEED: u64 = 201;
+pub const SEED: u64 = 201;
 const EVENTS: usize = 40_000;
 const ROUNDS: usize = 12;
-const BOOKS: [usize; 3] = [8, 64, 250];
+pub const BOOKS: [usize; 3] = [8, 64, 250];
 
 /// Events that are timed together. Of each such part the best round counts, so
 /// that the machine's other work doesn't.
@@ -169,13 +171,14 @@ impl Side {
 }
 
 /// Times every side on every book, round by round in turn, at the step of a cent
-/// and then at the half-cent step. Gives whether all sides wrote as many report
-/// bytes.
+/// and then at the half-cent step, and then questions. Gives whether all sides wrote
+/// as many report bytes and read as many orders.
 pub fn run() -> bool {
     let cents = BOOKS.map(|book| bench_book(CENT, book));
     println!("half-cent stocks:");
     let half_cents = BOOKS.map(|book| bench_book(HALF_CENT, book));
-    cents.into_iter().chain(half_cents).all(|same| same)
+    let questions = bench_fill::run();
+    cents.into_iter().chain(half_cents).all(|same| same) && questions
 }
 
 fn bench_book(step: u32, book: usize) -> bool {

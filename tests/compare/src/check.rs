@@ -6,15 +6,20 @@ use crate::by_limits;
 use crate::conditions;
 use crate::counts::{Counts, Lent};
 use crate::document_01;
+use crate::fronts;
 use crate::model::{
-    copy_out, depth, is_legal, permitted_price, read_record, watch_tape, write_record, Event,
-    Order, OrderRecord, RecordCheck, Refusal, Report, ReportWriter, Side, Venue, Watch, BUY, CENT,
-    LEAST_BUFFER, OPT_OUT, PLACES, SHORT,
+    copy_out, depth, is_legal, permitted_price, read_record, watch_tape, write_record, Event, Fill,
+    Order, OrderRecord, Question, RecordCheck, Refusal, Report, ReportWriter, Side, Venue, Watch,
+    BUY, CENT, LEAST_BUFFER, OPT_OUT, PLACES, SHORT,
 };
 use crate::price_rules;
+use crate::questions::any_questions;
 use crate::rng::Rng;
 use crate::sessions::{self, ensure, Examiner, Fault};
 use crate::streams::{Call, Session};
+
+/// The most questions before an event of most venues.
+const QUESTIONS: u32 = 1;
 
 /// Plays sessions until so many events are over. Gives whether all claims held.
 pub fn run(seed: u64, events: u64) -> bool {
@@ -56,10 +61,12 @@ impl Examiner for Checked {
         check_round_trip(&event, &call.record[..end], counts.events as usize % 5)?;
         price_rules::check(&mut self.rng, counts)?;
         self.before.clone_from(&self.venue);
+        self.ask_any(counts)?;
         let buffer = self.lent.lend(call.buffer);
         match self.venue.apply(&event, buffer, RecordCheck::Done) {
             Err(refusal) => {
                 counts.refuse(&self.venue, &event, refusal);
+                self.hold(&event, Err(refusal), counts)?;
                 self.check_refused(&event, refusal)?;
                 if refusal != Refusal::VenueRecord {
                     self.check_otherwise(&event, call.buffer, Err(refusal), counts)?;
@@ -69,6 +76,7 @@ impl Examiner for Checked {
             Ok(count) => {
                 let reports = read_reports(self.lent.front(count))?;
                 counts.accept(&self.before, &event, count, &reports);
+                self.hold(&event, Ok(&reports), counts)?;
                 ensure(self.lent.keeps_from(count), "bytes behind the reports")?;
                 self.lent.restore(count);
                 ensure(count <= LEAST_BUFFER, "16,384 bytes")?;
@@ -101,6 +109,40 @@ impl Checked {
             lent: Lent::new(),
             rng: Rng::new(0),
         }
+    }
+
+    /// A question to the venue before an event, checked by all fronts.
+    fn ask(&self, asked: &Question, counts: &mut Counts) -> Result<Result<Fill, Refusal>, Fault> {
+        let answer = self.before.would_fill(asked, RecordCheck::Done);
+        counts.asked.ask(asked, &self.before, answer);
+        fronts::check(asked, &self.before, answer)?;
+        Ok(answer)
+    }
+
+    fn ask_any(&mut self, counts: &mut Counts) -> Result<(), Fault> {
+        for asked in any_questions(&mut self.rng, &self.before, QUESTIONS) {
+            // Whatever the answer, it was checked.
+            let _ = self.ask(&asked, counts)?;
+        }
+        Ok(())
+    }
+
+    /// What an entry got, and the answer to its own question before it.
+    fn hold(
+        &self,
+        event: &Event,
+        entered: Result<&[Report], Refusal>,
+        counts: &mut Counts,
+    ) -> Result<(), Fault> {
+        let Event::Entry(entry) = event else {
+            return Ok(());
+        };
+        let answer = self.ask(&entry.question(), counts)?;
+        let answer = answer.map(|fill| fill.in_full).map_err(Refusal::number);
+        if let (Ok(yes), Ok(_)) = (answer, entered) {
+            counts.asked.hold(&self.before, yes);
+        }
+        fronts::hold(entry, answer, entered)
     }
 
     /// An event on a sound record does what document 01 says without market orders

@@ -7,11 +7,13 @@
 //! these; a fresh venue is 0 in every place; later, places that the
 //! venue doesn't use may hold anything; words behind the venue keep their
 //! content; a side is a buy where it is 0, and depth refuses with 2^64 - 1. Play
-//! looks at the venue first, so there 16 comes before 9 to 12.
+//! looks at the venue first, so there 16 comes before 9 to 12. The fill question
+//! refuses a run that is too short with 16 too.
 
 use crate::applier::{Applied, Applier};
+use crate::asker;
 use crate::counts::Counts;
-use crate::model::{read_record, Refusal, Report, Venue, LEAST_BUFFER};
+use crate::model::{read_record, Entry, Event, Refusal, Report, Venue, LEAST_BUFFER};
 use crate::observe::Observer;
 use crate::replay::Replay;
 use crate::rng::Rng;
@@ -21,6 +23,9 @@ use crate::streams::{Call, Session};
 
 /// At so many events, on average, the observing calls are compared once.
 const EVENTS_A_LOOK: u32 = 8;
+
+/// Of so many entries, on average, one is asked for before it is sent.
+const ENTRIES_A_QUESTION: u32 = 2;
 
 /// Plays sessions until so many events are over. Gives whether nothing
 /// differed.
@@ -81,7 +86,20 @@ impl Pair {
         let book = venue.map(|venue| &*venue);
         self.observer
             .look(&mut self.rng, book, resting, words, counts)?;
-        self.sides.compare_kept("a word after copy out")
+        self.sides.compare_kept("a word after copy out")?;
+        asker::ask_any(&mut self.sides, &mut self.rng, counts)
+    }
+
+    /// Asks for some entries whether they would fill. Gives the entry and the
+    /// engine's answer.
+    fn ask(&mut self, call: &Call, counts: &mut Counts) -> Result<Option<(Entry, u32)>, Fault> {
+        match read_record(call.record, 0) {
+            Ok((Event::Entry(entry), _)) if self.rng.one_in(ENTRIES_A_QUESTION) => {
+                let answer = asker::ask(&mut self.sides, &entry.question(), counts)?;
+                Ok(Some((entry, answer)))
+            }
+            _ => Ok(None),
+        }
     }
 }
 
@@ -99,6 +117,7 @@ impl Examiner for Pair {
     }
 
     fn event(&mut self, call: &Call, counts: &mut Counts) -> Result<(), Fault> {
+        let asked = self.ask(call, counts)?;
         let mut applied = self.apply(call, counts)?;
         if applied.answer == Err(Refusal::ShortBuffer) {
             // Once more with room, as a host would; so the event is one of a
@@ -108,6 +127,10 @@ impl Examiner for Pair {
                 ..*call
             };
             applied = self.apply(&again, counts)?;
+        }
+        if let Some(asked) = asked {
+            let entered = applied.answer.map(|_| &applied.bytes[..]);
+            asker::hold(&self.sides, asked, entered, counts)?;
         }
         self.replay.gather(call.record, &applied);
         if self.rng.one_in(EVENTS_A_LOOK) {

@@ -7,7 +7,7 @@ use crate::price_rules::is_legal;
 use crate::sessions::{ensure, Fault};
 
 /// Whether an entry breaks a condition in a venue.
-type Breaks = fn(&Entry, &Venue) -> bool;
+pub type Breaks = fn(&Entry, &Venue) -> bool;
 
 #[derive(Clone, Copy)]
 pub struct Condition {
@@ -16,7 +16,7 @@ pub struct Condition {
     breaks: Breaks,
 }
 
-const fn condition(refusal: u32, name: &'static str, breaks: Breaks) -> Condition {
+pub const fn condition(refusal: u32, name: &'static str, breaks: Breaks) -> Condition {
     Condition {
         refusal,
         name,
@@ -57,7 +57,7 @@ pub fn broken<'a>(
 }
 
 /// The first that is broken gives the refusal.
-fn refusal_of(conditions: &[Condition], entry: &Entry, venue: &Venue) -> Option<u32> {
+pub fn refusal_of(conditions: &[Condition], entry: &Entry, venue: &Venue) -> Option<u32> {
     let first = broken(conditions, entry, venue).next();
     first.map(|place| conditions[place].refusal)
 }
@@ -82,10 +82,8 @@ pub fn check(
 #[cfg(test)]
 mod tests {
     use super::*;
-    use crate::model::{read_record, RecordCheck};
     use crate::refused_entries::RefusedEntries;
-    use crate::rng::Rng;
-    use crate::streams::{Session, MOST_BUFFER};
+    use crate::streams::show_events;
 
     /// The answer to an entry of a buy at 90,000 with these codes.
     fn checked(codes: [u32; 4], answer: Result<&[Report], Refusal>) -> Result<(), Fault> {
@@ -119,29 +117,15 @@ mod tests {
         events: u32,
         mut see: impl FnMut(&Venue, &Entry, Result<usize, Refusal>),
     ) {
-        let mut seeds = Rng::new(seed);
-        let mut buffer = vec![0; MOST_BUFFER];
-        let mut over = 0;
-        while over < events {
-            let mut session = Session::new(seeds.next());
-            let mut venue = session.start.clone();
-            while let Some(call) = session.next(&venue) {
-                over += 1;
-                let Ok((event, _)) = read_record(call.record, 0) else {
-                    continue;
-                };
-                let before = venue.clone();
-                let lent = &mut buffer[..call.buffer];
-                let answer = venue.apply(&event, lent, RecordCheck::Done);
-                let early = [Refusal::VenueRecord, Refusal::ShortBuffer, Refusal::Spent];
-                match event {
-                    Event::Entry(entry) if !early.map(Err).contains(&answer) => {
-                        see(&before, &entry, answer);
-                    }
-                    _ => {}
+        show_events(seed, events, |before, event, answer| {
+            let early = [Refusal::VenueRecord, Refusal::ShortBuffer, Refusal::Spent];
+            match event {
+                Event::Entry(entry) if !early.map(Err).contains(&answer) => {
+                    see(before, entry, answer);
                 }
+                _ => {}
             }
-        }
+        });
     }
 
     /// A wrong version of the conditions, and what is wrong with it.

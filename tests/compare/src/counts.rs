@@ -1,5 +1,6 @@
 //! What a run counts, and the buffer that it lends.
 
+use crate::asked::Asked;
 use crate::half_cents::HalfCents;
 use crate::market_orders::MarketOrders;
 #[cfg(feature = "engine")]
@@ -56,6 +57,7 @@ pub struct Counts {
     market_orders: MarketOrders,
     pub half_cents: HalfCents,
     refused_entries: RefusedEntries,
+    pub asked: Asked,
     #[cfg(feature = "engine")]
     host: HostCounts,
 }
@@ -280,6 +282,7 @@ impl fmt::Display for Counts {
         writeln!(f, "{}", self.market_orders)?;
         writeln!(f, "{}", self.half_cents)?;
         writeln!(f, "{}", self.refused_entries)?;
+        writeln!(f, "{}", self.asked)?;
         #[cfg(feature = "engine")]
         if self.host.copies.accepted > 0 {
             write!(f, "{}", self.host)?;

@@ -1,7 +1,7 @@
 //! The proved engine behind its C functions, and the layout of its words.
 
 use crate::model::{
-    Order, OrderRecord, Progress, Refusal, Venue, Watch, CENT, HALF_CENT, PLACES,
+    Fill, Order, OrderRecord, Progress, Question, Refusal, Venue, Watch, CENT, HALF_CENT, PLACES,
 };
 
 /// A number that include/venue.h defines, as build.rs passes it on.
@@ -63,6 +63,13 @@ extern "C" {
         words_len: usize,
         run: *mut OrderRecord,
         run_len: usize,
+    ) -> u32;
+    fn venue_would_fill(
+        words: *const u32,
+        words_len: usize,
+        mark: u32,
+        price: u32,
+        shares: u32,
     ) -> u32;
     fn venue_depth(run: *const OrderRecord, run_len: usize, price: u32, side: u32) -> u64;
     fn venue_watch(watch: *mut Watch, step: u32, price: u32) -> u32;
@@ -142,6 +149,19 @@ pub fn copy_out(words: &mut [u32], run: &mut [OrderRecord]) -> u32 {
     unsafe { venue_copy_out(words.as_mut_ptr(), words.len(), run.as_mut_ptr(), run.len()) }
 }
 
+/// Whether an entry would fill. Answers refusal × 65,536, or the count of orders
+/// read, plus 32,768 for a yes. The words are lent for writing too, so that a write
+/// would be seen.
+pub fn would_fill(words: &mut [u32], asked: &Question) -> u32 {
+    let Question {
+        mark,
+        price,
+        shares,
+    } = *asked;
+    // SAFETY: pointer and length are those of a slice lent for the call.
+    unsafe { venue_would_fill(words.as_mut_ptr(), words.len(), mark, price, shares) }
+}
+
 /// The displayed shares at a price, of buys where the side is 0 and else of
 /// sells; 2^64 - 1 if refused. The run is lent for writing too, so that a write
 /// would be seen.
@@ -162,6 +182,31 @@ pub fn answer_of(answer: Result<usize, Refusal>) -> u32 {
         Ok(count) => count as u32,
         Err(refusal) => refusal.number() * 65_536,
     }
+}
+
+/// What is added to the count of orders read for a yes.
+const YES: u32 = 32_768;
+
+/// The engine's answer to a question that says the same as the model's.
+pub fn fill_answer_of(answer: Result<Fill, Refusal>) -> u32 {
+    let read = answer_of(answer.map(|fill| fill.read));
+    match answer {
+        Ok(fill) if fill.in_full => read + YES,
+        _ => read,
+    }
+}
+
+/// The yes or no of the engine's answer to a question, or the refusal's number.
+pub fn read_fill_answer(answer: u32) -> Result<bool, u32> {
+    match answer / 65_536 {
+        0 => Ok(answer >= YES),
+        refusal => Err(refusal),
+    }
+}
+
+/// The orders read of such an answer.
+pub fn count_read(answer: u32) -> usize {
+    (answer % YES) as usize
 }
 
 /// The layout of the header, in whose first word the count of orders stands, and

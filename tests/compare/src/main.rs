@@ -1,10 +1,14 @@
-//! A second implementation of the venue of document 01 and of No. 1 to No. 3 of
+//! A second implementation of the venue of document 01 and of No. 1 to No. 4 of
 //! document 02, and its comparison with the proved engine. See README.md.
 
 mod account;
 #[cfg(feature = "engine")]
 mod applier;
+mod asked;
+#[cfg(feature = "engine")]
+mod asker;
 mod bench;
+mod bench_fill;
 mod by_cents;
 mod by_limits;
 #[cfg(feature = "engine")]
@@ -22,6 +26,10 @@ mod document_01;
 #[cfg(feature = "engine")]
 mod engine;
 #[cfg(test)]
+mod fill_days;
+mod fill_vectors;
+mod fronts;
+#[cfg(test)]
 mod half_cent_days;
 mod half_cents;
 mod ladder;
@@ -37,6 +45,7 @@ mod odd;
 mod output;
 mod price_rules;
 mod program;
+mod questions;
 mod reached;
 mod refused_entries;
 #[cfg(feature = "engine")]
@@ -53,7 +62,8 @@ use std::path::Path;
 use std::process::ExitCode;
 
 const USAGE: &str = "usage: compare play [--step STEP] [FILE] | vectors [--step STEP] DIR |
-       check SEED EVENTS | bench; with the feature `engine` also: compare SEED EVENTS
+       fill [--step STEP] DIR | check SEED EVENTS | bench; with the feature `engine` also:
+       compare SEED EVENTS
        STEP is 50 or 100, without it 100";
 
 fn main() -> ExitCode {
@@ -73,7 +83,8 @@ fn main() -> ExitCode {
 fn run(words: &[&str]) -> io::Result<bool> {
     match *words {
         ["play", ref rest @ ..] => play(rest),
-        ["vectors", ref rest @ ..] => run_vectors(rest),
+        ["vectors", ref rest @ ..] => in_directory(rest, program::run_vectors),
+        ["fill", ref rest @ ..] => in_directory(rest, fill_vectors::run),
         ["check", seed, events] => Ok(check::run(number(seed)?, number(events)?)),
         ["bench"] => Ok(bench::run()),
         #[cfg(feature = "engine")]
@@ -97,9 +108,13 @@ fn number(word: &str) -> io::Result<u64> {
         .map_err(|_| io::Error::other(format!("{word} isn't a number; {USAGE}")))
 }
 
-fn run_vectors(words: &[&str]) -> io::Result<bool> {
+/// Runs what takes a step and a directory.
+fn in_directory(
+    words: &[&str],
+    run: impl FnOnce(u32, &Path) -> io::Result<bool>,
+) -> io::Result<bool> {
     match take_step(words) {
-        (step, [directory]) => program::run_vectors(step, Path::new(directory)),
+        (step, [directory]) => run(step, Path::new(directory)),
         _ => Err(io::Error::other(USAGE)),
     }
 }

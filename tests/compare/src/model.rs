@@ -1,8 +1,9 @@
-//! A plain implementation of document 01 and, of document 02, of No. 1 to No. 3,
+//! A plain implementation of document 01 and, of document 02, of No. 1 to No. 4,
 //! written from the papers and the readings alone. Comments in quotation marks are
 //! sentences of the papers, letters with numbers (A1, F1.3) are readings.
 
 mod book;
+mod fill;
 mod form;
 mod play;
 mod prices;
@@ -11,6 +12,7 @@ mod steps;
 mod venue;
 
 pub use book::{copy_out, depth, Order, OrderRecord, Side, BUY, OPT_OUT, PLACES, SHORT};
+pub use fill::{Fill, Question};
 pub use form::{
     read_number, read_record, write_number, write_record, Entry, Event, Report, ReportWriter,
     LONGEST_NUMBER,

@@ -27,7 +27,7 @@ fn is_bid(step: u32, bid: u32) -> bool {
 
 /// The lowest legal price above the bid; at the step of a cent as document 01
 /// says it too.
-fn permitted(step: u32, bid: u32) -> u32 {
+pub fn permitted(step: u32, bid: u32) -> u32 {
     match step {
         CENT => document_01::permitted_price(bid),
         _ => {

@@ -21,8 +21,14 @@ pub fn play(step: u32, input: &[u8]) -> String {
     lines
 }
 
-/// Plays to the end of the input or to the refusal that ends the program.
-fn play_into(step: u32, input: &[u8], lines: &mut String) -> Result<(), Refusal> {
+/// The venue after the whole input; the refusal where one ends the program.
+pub fn venue_after(step: u32, input: &[u8]) -> Result<Venue, Refusal> {
+    play_into(step, input, &mut String::new())
+}
+
+/// Plays to the end of the input, where it gives the venue, or to the refusal that
+/// ends the program.
+fn play_into(step: u32, input: &[u8], lines: &mut String) -> Result<Venue, Refusal> {
     let (close, mut at) = read_close(input)?;
     let mut venue = Venue::open(step, close)?;
     let mut buffer = vec![0; LEAST_BUFFER];
@@ -38,7 +44,7 @@ fn play_into(step: u32, input: &[u8], lines: &mut String) -> Result<(), Refusal>
         }
         at = end;
     }
-    Ok(())
+    Ok(venue)
 }
 
 /// "a close as one seven-bit number (9, 10 or 12 as in a record, then 3)"; the
@@ -58,6 +64,17 @@ fn put_line(lines: &mut String, numbers: &[u32]) {
 /// Plays every .bin of a directory at a step and compares with the .txt beside
 /// it. Gives whether all are equal.
 pub fn run_vectors(step: u32, directory: &Path) -> io::Result<bool> {
+    let inputs = inputs_of(directory)?;
+    let mut differing = 0;
+    for path in &inputs {
+        differing += u32::from(!vector_agrees(step, path)?);
+    }
+    println!("vectors {} differing {differing}", inputs.len());
+    Ok(differing == 0 && !inputs.is_empty())
+}
+
+/// Every .bin of a directory, by name.
+pub fn inputs_of(directory: &Path) -> io::Result<Vec<PathBuf>> {
     let mut inputs = Vec::new();
     for entry in fs::read_dir(directory)? {
         let path = entry?.path();
@@ -66,12 +83,7 @@ pub fn run_vectors(step: u32, directory: &Path) -> io::Result<bool> {
         }
     }
     inputs.sort();
-    let mut differing = 0;
-    for path in &inputs {
-        differing += u32::from(!vector_agrees(step, path)?);
-    }
-    println!("vectors {} differing {differing}", inputs.len());
-    Ok(differing == 0 && !inputs.is_empty())
+    Ok(inputs)
 }
 
 fn vector_agrees(step: u32, path: &PathBuf) -> io::Result<bool> {

@@ -18,6 +18,16 @@ pub fn never<N: Display>(lines: &[Line<N>]) -> Vec<String> {
     names
 }
 
+/// The smaller one of two counts, in lines with the same names.
+pub fn smaller<N>(mut lines: Vec<Line<N>>, others: Vec<Line<N>>) -> Vec<Line<N>> {
+    for ((_, counts), (_, others)) in lines.iter_mut().zip(others) {
+        for ((count, _), (other, _)) in counts.iter_mut().zip(others) {
+            *count = other.min(*count);
+        }
+    }
+    lines
+}
+
 /// A title, the lines, and at the end the names of all that is 0.
 pub fn write<N: Display>(f: &mut Formatter, title: &str, lines: &[Line<N>]) -> Result {
     write!(f, "{title}:")?;

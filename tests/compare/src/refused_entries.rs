@@ -5,7 +5,7 @@
 
 use crate::conditions::{broken, CONDITIONS};
 use crate::model::{Entry, Event, Refusal, Venue, CENT};
-use crate::reached::{self, Line, Named};
+use crate::reached::{self, smaller, Line, Named};
 use std::fmt;
 
 /// The places of the codes among the conditions: mark, show, life, slide.
@@ -129,13 +129,7 @@ impl RefusedEntries {
 
     /// The smaller one of the counts at both steps.
     fn lines(&self) -> Vec<Line<String>> {
-        let mut lines = self.half_cent.lines();
-        for ((_, counts), (_, others)) in lines.iter_mut().zip(self.cent.lines()) {
-            for ((count, _), (other, _)) in counts.iter_mut().zip(others) {
-                *count = other.min(*count);
-            }
-        }
-        lines
+        smaller(self.half_cent.lines(), self.cent.lines())
     }
 }
 

@@ -25,6 +25,9 @@ const ODD_LENGTHS: [usize; 9] = [
     WORDS,
 ];
 
+/// Lengths of runs that are too short for a venue.
+const SHORT_LENGTHS: [usize; 6] = [0, 1, 15, 16, 100, engine::VENUE_WORDS - 1];
+
 /// Opens with any step and close, before the one that a session begins with.
 const ODD_OPENS: usize = 6;
 
@@ -93,6 +96,12 @@ impl Sides {
             Ok(&mut self.venue)
         };
         (venue, &mut self.words[..self.lent_words])
+    }
+
+    /// Too few words for a venue, for a call on the engine's side alone.
+    pub fn lend_short(&mut self, rng: &mut Rng) -> &mut [u32] {
+        self.before.copy_from_slice(&self.words);
+        &mut self.words[..rng.pick(&SHORT_LENGTHS)]
     }
 
     /// An open of so many words: the same answer and every word, those behind
@@ -169,7 +178,7 @@ impl Sides {
                 self.words[flag] = rng.pick(&[2, 3, 256, u32::MAX]);
             }
             3 => self.words[engine::COUNT_AT] = rng.pick(&[257, 1 << 16, 1 << 31, u32::MAX]),
-            4 => self.lent_words = rng.pick(&[0, 1, 15, 16, 100, engine::VENUE_WORDS - 1]),
+            4 => self.lent_words = rng.pick(&SHORT_LENGTHS),
             5 => {
                 let others = [0, engine::LAYOUT - 1, engine::LAYOUT + 1, u32::MAX];
                 self.words[engine::LAYOUT_AT] = rng.pick(&others);

@@ -4,6 +4,8 @@
 
 use crate::ladder::Ladder;
 use crate::made_up::{made_up, sink_shorts, spoil_record};
+#[cfg(test)]
+use crate::model::Refusal;
 use crate::model::{
     read_record, write_number, write_record, Entry, Event, RecordCheck, Venue, CENT, DOLLAR,
     HALF_CENT, LEAST_BUFFER, LONGEST_NUMBER, LOWEST, MOST_SHARES, PLACES, SHORT,
@@ -437,6 +439,33 @@ impl Session {
             nonsense(&mut self.rng, sound, venue)
         } else {
             sound
+        }
+    }
+}
+
+/// Shows so many events, each with the venue before it and the answer, but for
+/// those that can't be read.
+#[cfg(test)]
+pub fn show_events(
+    seed: u64,
+    events: u32,
+    mut see: impl FnMut(&Venue, &Event, Result<usize, Refusal>),
+) {
+    let mut seeds = Rng::new(seed);
+    let mut buffer = vec![0; MOST_BUFFER];
+    let mut over = 0;
+    while over < events {
+        let mut session = Session::new(seeds.next());
+        let mut venue = session.start.clone();
+        while let Some(call) = session.next(&venue) {
+            over += 1;
+            let Ok((event, _)) = read_record(call.record, 0) else {
+                continue;
+            };
+            let before = venue.clone();
+            let lent = &mut buffer[..call.buffer];
+            let answer = venue.apply(&event, lent, RecordCheck::Done);
+            see(&before, &event, answer);
         }
     }
 }

@@ -65,6 +65,18 @@ impl Order {
         self.mark == SHORT && self.limit == LOWEST
     }
 
+    /// Whether a working buy reaches it, and whether a working sell does: "opposite
+    /// order that the working price reaches (equal counts)".
+    #[inline]
+    pub(super) fn is_sell_up_to(&self, price: u32) -> bool {
+        (self.mark != BUY) & (self.price <= price)
+    }
+
+    #[inline]
+    pub(super) fn is_buy_from(&self, price: u32) -> bool {
+        (self.mark == BUY) & (self.price >= price)
+    }
+
     /// "Best is by price, then displayed before not, then lower stamp": the
     /// three in one number, the lowest best, from the price's distance to the
     /// best price there is. Legal prices take 27 bits.
@@ -133,14 +145,10 @@ pub(super) fn suits_mark(slide: u32, mark: u32) -> bool {
 pub(super) fn best_opposite(orders: &[Order], working: &Order) -> Option<usize> {
     let price = working.price;
     if working.mark == BUY {
-        best(orders, |order| {
-            let reached = (order.mark != BUY) & (order.price <= price);
-            (reached, order.price)
-        })
+        best(orders, |order| (order.is_sell_up_to(price), order.price))
     } else {
         best(orders, |order| {
-            let reached = (order.mark == BUY) & (order.price >= price);
-            (reached, HIGHEST - order.price)
+            (order.is_buy_from(price), HIGHEST - order.price)
         })
     }
 }

@@ -1,5 +1,6 @@
 //! "The seven-bit form": numbers, event records and reports.
 
+use super::fill::Question;
 use super::Refusal;
 
 /// The longest number, 2^64 - 1, has ten groups of seven bits.
@@ -78,7 +79,16 @@ pub struct Entry {
 
 impl Entry {
     pub fn is_market(&self) -> bool {
-        self.price == 0
+        self.question().is_market()
+    }
+
+    /// What No. 4 asks before this entry is sent.
+    pub fn question(&self) -> Question {
+        Question {
+            mark: self.mark,
+            price: self.price,
+            shares: self.shares,
+        }
     }
 }
 

@@ -5,10 +5,9 @@ use super::book::{
     best_opposite, is_slide, suits_mark, Order, BUY, CONTINUOUS, DISPLAYED, HIGHEST_MARK,
     IMMEDIATE, ONCE, OPT_OUT, PLACES, SHORT,
 };
+use super::fill::Question;
 use super::form::{Entry, Event, Report, ReportWriter};
-use super::prices::{
-    is_bid, is_legal, is_step, permitted, phase_after_day_end, phase_after_tape, HIGHEST, LOWEST,
-};
+use super::prices::{is_bid, is_legal, is_step, permitted, phase_after_day_end, phase_after_tape};
 use super::Refusal;
 
 /// "1 if the buffer has under 16,384 bytes"
@@ -26,7 +25,7 @@ const NOT_IMMEDIATE: u32 = 2;
 const OPTED_OUT: u32 = 3;
 const DAY_END: u32 = 4;
 
-/// Whether an event looks for refusal 16. Skipping is for the benchmark only,
+/// Whether an event or a question looks for refusal 16. Skipping is for the benchmark only,
 /// on venues that are known to be sound.
 #[derive(Clone, Copy, Debug, PartialEq, Eq)]
 pub enum RecordCheck {
@@ -168,34 +167,53 @@ impl Venue {
     /// if the buffer has under 16,384 bytes; 2 if 16,777,215 events were
     /// accepted."
     fn refuse_any(&self, buffer: usize, check: RecordCheck) -> Result<(), Refusal> {
-        let sound = check == RecordCheck::Skipped || self.is_sound();
-        refuse_unless(sound, Refusal::VenueRecord)?;
+        self.refuse_record(check)?;
         refuse_unless(buffer >= LEAST_BUFFER, Refusal::ShortBuffer)?;
         refuse_unless(self.accepted < MOST_EVENTS, Refusal::Spent)
     }
 
+    /// "16 if the venue record breaks a condition"
+    pub(super) fn refuse_record(&self, check: RecordCheck) -> Result<(), Refusal> {
+        let sound = check == RecordCheck::Skipped || self.is_sound();
+        refuse_unless(sound, Refusal::VenueRecord)
+    }
+
     /// "Entry then: 3 price not legal; 4 shares; 5 mark, show, life or slide; 6
-    /// id not above the last accepted id (0 never is); 7 if 256 orders rest." And
-    /// "refusal 3 no longer meets an entry price of 0", the others do (F1.6).
+    /// id not above the last accepted id (0 never is); 7 if 256 orders rest."
     fn refuse_entry(&self, entry: &Entry) -> Result<(), Refusal> {
-        let shares = (1..=MOST_SHARES).contains(&entry.shares);
-        let price = entry.is_market() || is_legal(self.step, entry.price);
-        refuse_unless(price, Refusal::Price)?;
-        refuse_unless(shares, Refusal::Shares)?;
+        self.refuse_asked(&entry.question())?;
         refuse_codes(entry)?;
         refuse_unless(entry.id > self.last_id, Refusal::Id)?;
         refuse_unless(self.orders.len() < PLACES, Refusal::Full)
+    }
+
+    /// What is looked at first in an entry: 3, 4, and 18 for the mark, "in the
+    /// place where 5 stands". And "refusal 3 no longer meets an entry price of
+    /// 0", the others do (F1.6).
+    pub(super) fn refuse_asked(&self, asked: &Question) -> Result<(), Refusal> {
+        let shares = (1..=MOST_SHARES).contains(&asked.shares);
+        let price = asked.is_market() || is_legal(self.step, asked.price);
+        refuse_unless(price, Refusal::Price)?;
+        refuse_unless(shares, Refusal::Shares)?;
+        refuse_unless(asked.mark <= HIGHEST_MARK, Refusal::Mark)
+    }
+
+    /// "works at its limit; a restricted one at the larger of limit and
+    /// permitted price"
+    pub(super) fn working_price(&self, mark: u32, limit: u32) -> u32 {
+        if self.restricts(mark) {
+            limit.max(permitted(self.step, self.bid))
+        } else {
+            limit
+        }
     }
 
     /// "An entry takes a stamp and works at its limit; a restricted one at the
     /// larger of limit and permitted price, adjusted if that is above the
     /// limit. It then matches."
     fn enter(&mut self, entry: &Entry, reports: &mut ReportWriter) {
-        let limit = limit_of(entry);
-        let mut price = limit;
-        if self.restricts(entry.mark) {
-            price = price.max(permitted(self.step, self.bid));
-        }
+        let limit = entry.question().limit();
+        let price = self.working_price(entry.mark, limit);
         let mut order = Order {
             id: entry.id,
             mark: entry.mark,
@@ -417,23 +435,12 @@ impl Venue {
     }
 }
 
-/// "price, which is its limit". Of a market order: "A buy works at 100,000,000
-/// and any sell at 1", and a market short "counts as limit 1".
-fn limit_of(entry: &Entry) -> u32 {
-    match entry.mark {
-        BUY if entry.is_market() => HIGHEST,
-        _ if entry.is_market() => LOWEST,
-        _ => entry.price,
-    }
-}
-
 /// "A bad mark, a bad slide code, and a slide on an order that isn't short become
 /// their own answers. A bad show or life keeps 5. They are looked for in the
 /// order mark, show, life, slide code, slide on the wrong mark. These carry 18, 19
 /// and 20, in the place where 5 stands." A slide above 3 is 19 on every mark, 1 to
-/// 3 on a mark other than 2 is 20 (F3.1).
+/// 3 on a mark other than 2 is 20 (F3.1). The mark was looked at before.
 fn refuse_codes(entry: &Entry) -> Result<(), Refusal> {
-    refuse_unless(entry.mark <= HIGHEST_MARK, Refusal::Mark)?;
     refuse_unless(entry.show <= DISPLAYED, Refusal::ShowOrLife)?;
     refuse_unless(entry.life <= IMMEDIATE, Refusal::ShowOrLife)?;
     refuse_unless(is_slide(entry.slide), Refusal::SlideCode)?;
