@@ -1,3 +1,4 @@
 -- Laws of the calls for hosts.
 pub mod refinement
 pub mod demand3
+pub mod requests

@@ -3,3 +3,4 @@ pub mod Calls
 pub mod HostCalls
 pub mod PlayCalls
 pub mod HostDays
+pub mod HostFill

@@ -1,3 +1,4 @@
 -- The calls for hosts, by the rules.
 pub mod Host
 pub mod Observe
+pub mod Fill

@@ -2,7 +2,7 @@
 use Prim.Native.Nat.{ℕ, _≤_, _<_}
 use native.Mathlib.Omega.{arith}
 use mathlib.Core.Path.{_≡_, refl, sym, ap, _∙_}
-use mathlib.Core.Bool.{false, _||_}
+use mathlib.Core.Bool.{Bool, true, false, _||_}
 use mathlib.Core.Option.{Option, none, some}
 use mathlib.Core.List.{List}
 use lib.Dec.{T, leb, leb→le}
@@ -13,12 +13,50 @@ use Rattle.book.specs.declared.FrontRead.{FrontRead}
 use Rattle.book.specs.rules.Fill.{frontRead}
 use Rattle.book.specs.rules.Words.{resting, isBook}
 use Rattle.book.proofs.definitions.FillLaws.{front-bound}
+use Rattle.book.proofs.refinement.WordLaws.{isBook-book}
 use Rattle.engine.specs.rules.Working.{isMarket, orderOf}
 use Rattle.engine.specs.rules.Sound.{sound}
-use Rattle.engine.specs.rules.Refusals.{refuseUnless, refusalOfTerms, refusalOfAsked}
+use Rattle.engine.specs.rules.Refusals.{refuseUnless, firstOf, refusalOfTerms, refusalOfAsked}
 use Rattle.engine.specs.rules.Layout.{venueOf, soundWords}
 use Rattle.engine.specs.rules.Fill.{askedOrder, fillUnless, wouldFill, wouldFillIn}
-use Rattle.engine.proofs.refinement.RefuseLaws.{refuse-yes, refuse-no, unrefused, first-nothing, words-ordered, words-book, words-sound}
+use Rattle.engine.specs.claims.Fill.{FillFits, FillsFit}
+use Rattle.engine.proofs.refinement.RefuseLaws.{refuse-yes, refuse-no, unrefused, first-nothing, words-book, words-sound}
+
+-- every refusal of the question has a number of at least 1
+
+abbrev Positive : Option ℕ → Type 0
+Positive none = Unit {0}
+Positive (some n) = 1 ≤ n
+
+refuse-positive : (b : Bool) (n : ℕ) (later : Option ℕ) → 1 ≤ n → Positive later → Positive (refuseUnless b n later)
+unfolding refuseUnless
+refuse-positive true n later l h = h
+refuse-positive false n later l h = l
+
+first-positive : (r later : Option ℕ) → Positive r → Positive later → Positive (firstOf r later)
+unfolding firstOf
+first-positive none later r h = h
+first-positive (some n) later r h = r
+
+asked-positive : (s mark price shares : ℕ) → Positive (refusalOfAsked s mark price shares)
+unfolding refusalOfAsked refusalOfTerms
+asked-positive s mark price shares =
+    first-positive _ _ (refuse-positive _ 3 _ (omega arith) (refuse-positive _ 4 _ (omega arith) (refuse-positive _ 4 none (omega arith) tt))) (refuse-positive _ 18 none (omega arith) tt)
+
+pub fills-fit : FillsFit
+unfolding wouldFillIn wouldFill fillUnless venueOf
+fills-fit w mark price shares =
+    by-test
+    FillFits
+    (isBook w)
+    (λ t. go t (refuseUnless (sound (venueOf w)) 16 (refusalOfAsked (venueOf w .market .step) mark price shares)) (refuse-positive _ 16 _ (omega arith) (asked-positive _ mark price shares)))
+    (λ t. omega arith)
+  where
+    go : T (isBook w) → (x : Option ℕ) → Positive x → FillFits (fillUnless x (venueOf w) mark price shares)
+    go t none p = omega (arith, front-bound (askedOrder (venueOf w .market) mark price shares) (resting w), isBook-book w t .few)
+    go t (some n) p = p
+
+-- by the words
 
 module _ (w : List ℕ) (mark price shares : ℕ) where
   abbrev refused : Option ℕ

@@ -40,6 +40,8 @@ use Rattle.engine.specs.rules.Records.{reportsBytes}
 use Rattle.engine.specs.rules.Answers.{countOf, bufferAfter}
 use Rattle.engine.specs.rules.Layout.{venueOf, stepIn}
 use Rattle.engine.specs.rules.Fill.{askedOrder, fillUnless, wouldFill, wouldFillIn, outcomeOfFill}
+use Rattle.engine.specs.claims.RoundTrips.{Word}
+use Rattle.engine.specs.claims.Calls.{Applied}
 use Rattle.engine.specs.claims.Fill.{ReadShortest, ReadsShortest, NothingElseMatters, refusalGiven, ofVenueOrTerms, RefusedAsEntries, RefusedAsEntriesInCalls, executedBy, executedFor, TrueOf, TellsTheTruth, TrueOfBytes, TellsTheTruthOfCalls}
 use Rattle.engine.proofs.refinement.RefuseLaws.{refuse-yes}
 use Rattle.engine.proofs.refinement.RefusalLaws.{NotRefused, Unless, refusal-known}
@@ -266,10 +268,10 @@ unfolding stepIn
 laid-out w e n rs =
     by-test (λ (s : Step). s .answer ≡ gives rs → T (isBook w)) (isBook w) (λ t q. t) (λ t q. let y : _≡_ {A = ℕ} 0 1 = cc in absurd (omega arith))
 
-pub tells-the-truth-of-calls : TellsTheTruthOfCalls
-tells-the-truth-of-calls w e i b count w′ b′ a told q = go (stepIn w (entry e) (length b) .answer) refl (a .answers) (a .buffer)
+pub true-of-call : (w : List ℕ) (e : Entry) → Word (e .id) → {b : List ℕ} {count : ℕ} {w′ b′ : List ℕ} → Applied w (entry e) b (gives count) w′ b′ → {o : Outcome FrontRead} → o ≡ wouldFillIn w (e .mark) (e .price) (e .shares) → TrueOfBytes e b′ count o
+true-of-call w e i {b} {count} {w′} {b′} a {o} q = go (stepIn w (entry e) (length b) .answer) refl (a .answers) (a .buffer)
   where
-    go : (x : Outcome (List Report)) → stepIn w (entry e) (length b) .answer ≡ x → gives count ≡ countOf x → b′ ≡ bufferAfter b x → TrueOfBytes e b′ count (outcomeOfFill told)
+    go : (x : Outcome (List Report)) → stepIn w (entry e) (length b) .answer ≡ x → gives count ≡ countOf x → b′ ≡ bufferAfter b x → TrueOfBytes e b′ count o
     go (refuses k) s c f = let y : _≡_ {A = ℕ} 0 1 = cc in absurd (omega arith)
     go (gives rs) s c f =
         let v : Venue = venueOf w in
@@ -281,6 +283,9 @@ tells-the-truth-of-calls w e i b count w′ b′ a told q = go (stepIn w (entry 
           readable = rw (f, l) (bytes-read b rs (subst (Readable (length b)) z (step-readable v (entry e) (length b) i)));
           is = subst (TrueOf e rs) (sym (q ∙ in-words w (e .mark) (e .price) (e .shares) t)) (tells-the-truth v e (length b) rs z);
         }
+
+pub tells-the-truth-of-calls : TellsTheTruthOfCalls
+tells-the-truth-of-calls w e i b count w′ b′ a told q = true-of-call w e i a q
 
 count-given : (x : Outcome (List Report)) → refusalGiven (countOf x) ≡ refusalGiven x
 count-given (gives rs) = refl
@@ -297,6 +302,9 @@ module _ (w : List ℕ) (e : Entry) (n : ℕ) (l : leastBuffer ≤ n) (a : venue
   unfolding wouldFillIn stepIn
   refused-in-words = chosen (isBook w)
 
-pub refused-as-entries-in-calls : RefusedAsEntriesInCalls
-refused-as-entries-in-calls w e b answer w′ b′ a l n told q =
+pub refused-in-call : (w : List ℕ) (e : Entry) {b : List ℕ} {answer : Outcome ℕ} {w′ b′ : List ℕ} → Applied w (entry e) b answer w′ b′ → leastBuffer ≤ length b → venueOf w .acceptedEvents < mostEvents → {o : Outcome FrontRead} → o ≡ wouldFillIn w (e .mark) (e .price) (e .shares) → refusalGiven o ≡ ofVenueOrTerms (refusalGiven answer)
+refused-in-call w e {b} a l n q =
     ap refusalGiven q ∙ refused-in-words w e (length b) l n ∙ ap ofVenueOrTerms (sym (ap refusalGiven (a .answers) ∙ count-given (stepIn w (entry e) (length b) .answer)))
+
+pub refused-as-entries-in-calls : RefusedAsEntriesInCalls
+refused-as-entries-in-calls w e b answer w′ b′ a l n told q = refused-in-call w e a l n q

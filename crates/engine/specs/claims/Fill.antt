@@ -17,7 +17,7 @@ use Rattle.engine.specs.declared.Event.the-variants.{Entry as entry}
 use Rattle.engine.specs.declared.FillAnswer.{FillAnswer}
 use Rattle.engine.specs.rules.Reports.{Report, accepted, executed, cancelled, repriced, restrictionStarts, dayEnded}
 use Rattle.engine.specs.rules.Venue.{Venue}
-use Rattle.engine.specs.rules.Sound.{mostEvents, sound}
+use Rattle.engine.specs.rules.Sound.{mostOrders, mostEvents, sound}
 use Rattle.engine.specs.rules.Refusals.{leastBuffer}
 use Rattle.engine.specs.rules.Run.{step}
 use Rattle.engine.specs.rules.Records.{reportsUpTo}
@@ -44,6 +44,14 @@ abbrev pub ReadsShortest : Type 0
 ReadsShortest =
     (v : Venue) (mark price shares : ℕ) (r : FrontRead) → wouldFill v mark price shares ≡ gives r →
     ReadShortest (askedOrder (v .market) mark price shares) (v .orders) r
+
+-- at most 256 orders are read, and a refusal has a number of at least 1, of any words
+abbrev pub FillFits : Outcome FrontRead → Type 0
+FillFits (gives r) = r.read ≤ mostOrders
+FillFits (refuses n) = 1 ≤ n
+
+abbrev pub FillsFit : Type 0
+FillsFit = (w : List ℕ) (mark price shares : ℕ) → FillFits (wouldFillIn w mark price shares)
 
 -- "a full book or spent events don't matter to it": nothing does but the venue check, the market and the orders
 abbrev pub NothingElseMatters : Type 0

@@ -1,0 +1,2 @@
+-- What is claimed of document 02's requests.
+pub mod FillLaws

@@ -1,0 +1,44 @@
+-- What is claimed of venue_would_fill, as a host sees it: numbers and bytes. Assumes nothing.
+use Prim.Native.Nat.{ℕ, _≤_, _<_}
+use mathlib.Core.Path.{_≡_}
+use mathlib.Core.List.{List}
+use lib.ListN.{length}
+use Rattle.numbers.specs.Tests.{All}
+use Rattle.numbers.specs.Answers.{gives}
+use Rattle.numbers.specs.SevenBit.{IsByte}
+use Rattle.engine.specs.declared.Entry.{Entry}
+use Rattle.engine.specs.declared.Event.the-variants.{Entry as entry}
+use Rattle.engine.specs.rules.Sound.{mostEvents}
+use Rattle.engine.specs.rules.Refusals.{leastBuffer}
+use Rattle.engine.specs.rules.Records.{recordAt}
+use Rattle.engine.specs.rules.Layout.{venueOf}
+use Rattle.engine.specs.rules.Fill.{wouldFillIn}
+use Rattle.engine.specs.claims.Fill.{refusalGiven, ofVenueOrTerms, TrueOfBytes}
+use Rattle.host.specs.rules.Host.{outcomeOf}
+use Rattle.host.specs.rules.Fill.{fillNumber, fillRead}
+use Rattle.host.specs.claims.Calls.{HostApplied}
+
+-- the number says just what was told
+abbrev pub FillNumbersRead : Type 0
+FillNumbersRead = (w : List ℕ) (mark price shares : ℕ) → fillRead (fillNumber w mark price shares) ≡ wouldFillIn w mark price shares
+
+-- a call of venue_apply whose bytes read as the entry e, and the number asked that venue_would_fill answers of the same words for the mark, price and
+-- shares of e
+pub record AskedBefore (w bytes b : List ℕ) (answer : ℕ) (w′ b′ : List ℕ) (e : Entry) (end asked : ℕ) : Type 0 where
+  pub areBytes : All IsByte bytes
+  pub applied : HostApplied w bytes b answer w′ b′
+  pub reads : recordAt bytes 0 ≡ gives (record { value = entry e; end = end })
+  pub answered : asked ≡ fillNumber w (e .mark) (e .price) (e .shares)
+
+-- No. 4, "tell whether an entry would fill in full now": where the call is accepted, the answer is true of its report bytes
+abbrev pub TellsHostsTheTruth : Type 0
+TellsHostsTheTruth =
+    (w bytes b : List ℕ) (answer : ℕ) (w′ b′ : List ℕ) (e : Entry) (end asked : ℕ) → AskedBefore w bytes b answer w′ b′ e end asked →
+    answer < 65_536 → TrueOfBytes e b′ answer (fillRead asked)
+
+-- "refused as in an entry": with a long enough buffer, while events are left
+abbrev pub RefusedAsEntriesForHosts : Type 0
+RefusedAsEntriesForHosts =
+    (w bytes b : List ℕ) (answer : ℕ) (w′ b′ : List ℕ) (e : Entry) (end asked : ℕ) → AskedBefore w bytes b answer w′ b′ e end asked →
+    leastBuffer ≤ length b → venueOf w .acceptedEvents < mostEvents →
+    refusalGiven (fillRead asked) ≡ ofVenueOrTerms (refusalGiven (outcomeOf answer))
