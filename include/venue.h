@@ -105,30 +105,32 @@ struct venue_progress {
 uint32_t venue_play(uint32_t *words, size_t words_length, const uint8_t *records, size_t records_length, uint64_t from, uint8_t *reports,
                     size_t reports_length, uint64_t *ends, size_t ends_length, struct venue_progress *progress);
 
-/* Whether an entry with this mark, price and shares would fill in full now, with the restriction applied, and how many orders were read to tell. Nothing is
-   changed. It would fill if the orders on the other side that it reaches at its working price, hidden ones too, have as many shares as it has; its
-   show, life and slide don't matter. The price 0 means market, as in an entry. The orders are read in rising id, on both sides and in reach or not, up to the one
-   that completes the shares, or all of them.
-   The answer is refusal * 65,536, or the orders read, up to 256, and VENUE_FILLS more for a yes; venue_fills and venue_orders_read take it apart. A book
-   without orders is a no with 0 read. A refusal, in this order; a full book, spent events, the last id and a report buffer don't matter:
+/* What venue_would_fill adds to the orders read for a yes. */
+#define VENUE_YES 32768
+
+/* Whether an entry with this mark, price and shares would fill in full now, and how many orders were read to tell. Nothing is changed.
+   It would fill if the orders on the other side that it reaches, hidden ones too, have its shares or more. It reaches them by its working price: its limit,
+   and of a short while the restriction is on the larger of its limit and the permitted price of the bid. The price 0 means market, as in an entry.
+   Show, life and slide don't matter. The orders are read in rising id, those of its own side and out of reach too, up to the one that completes the
+   shares, or all of them; a book without orders is a no with 0 read.
+   The answer is the orders read, at most VENUE_ORDERS, and VENUE_YES more for a yes; or refusal * 65,536. The refusals are those of an entry, in its order,
+   and never 1, 2, 6 or 7: the buffer, the events accepted, the last id and a full book don't matter.
    16  the words aren't a venue
     3  the price isn't legal at the venue's step; 0 means market
     4  shares not 1 to 1,000,000
    18  the mark is above 3 */
 uint32_t venue_would_fill(const uint32_t *words, size_t words_length, uint32_t mark, uint32_t price, uint32_t shares);
 
-#define VENUE_FILLS 32768
-
 /* 1 for a yes; 0 for a no and for a refusal, which venue_refusal tells. */
 static inline uint32_t venue_fills(uint32_t answer)
 {
-    return answer / VENUE_FILLS % 2;
+    return answer / VENUE_YES % 2;
 }
 
 /* The orders read; 0 for a refusal. */
 static inline uint32_t venue_orders_read(uint32_t answer)
 {
-    return answer % VENUE_FILLS;
+    return answer % VENUE_YES;
 }
 
 /* The byte count of the event record that stands at the front of the bytes; bytes behind it don't matter.

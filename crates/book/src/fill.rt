@@ -35,14 +35,14 @@ pub fn read_front(w: &[u32], o: Order) -> FrontRead
         i += 1;
         if missing <= found {
             return FrontRead {
-                full: true,
+                fills: true,
                 read: i,
             };
         }
         missing -= found;
     }
     FrontRead {
-        full: false,
+        fills: false,
         read: n,
     }
 }

@@ -65,7 +65,7 @@ pub enum Position {
 
 // Whether an order would fill in full, and how many orders were read to tell.
 pub struct FrontRead {
-    pub full: bool,
+    pub fills: bool,
     pub read: usize,
 }
 

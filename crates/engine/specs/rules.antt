@@ -1,4 +1,4 @@
--- The rules of documents 01 and 02 on the venue, in their order, and last the venue that a run of words means.
+-- The rules of documents 01 and 02 on the venue, in their order, then the venue that a run of words means, and what is asked of it.
 pub mod Market
 pub mod Working
 pub mod Pass

@@ -35,10 +35,10 @@ pub fn would_fill(words: &[u32], mark: u32, price: u32, shares: u32) -> FillAnsw
     ensures { λ r. ⌜ outcomeOfFill r ≡ wouldFillIn (now (words .entry)) mark price shares ⌝ }
 {
     if !refuse::venue_sound(words) {
-        return FillAnswer::NotAsked(Refusal::VenueBroken);
+        return FillAnswer::Refused(Refusal::VenueBroken);
     }
     match refuse::asked_refusal(words, mark, price, shares) {
-        MayRefuse::Refuse(refusal) => FillAnswer::NotAsked(refusal),
+        MayRefuse::Refuse(refusal) => FillAnswer::Refused(refusal),
         MayRefuse::Allow => FillAnswer::Told(fill::read_front(
             words,
             asked_order(words, mark, price, shares),

@@ -75,7 +75,7 @@ pub struct Passed {
     pub next: usize,
 }
 
-// Why open or an event is refused.
+// Why open, an event or a question is refused.
 pub enum Refusal {
     // the report buffer has under 16,384 bytes
     BufferTooShort,
@@ -100,7 +100,7 @@ pub enum Refusal {
     SlideOnWrongMark,
 }
 
-// Whether an event is refused, and why.
+// Whether an event or a question is refused, and why.
 pub enum MayRefuse {
     Refuse(Refusal),
     Allow,
@@ -120,10 +120,10 @@ pub enum CopyAnswer {
     VenueBroken,
 }
 
-// What the question whether an entry would fill answers: yes or no with the count of orders read, or why it wasn't asked.
+// What the question whether an entry would fill answers: yes or no with the count of orders read, or why it is refused.
 pub enum FillAnswer {
     Told(FrontRead),
-    NotAsked(Refusal),
+    Refused(Refusal),
 }
 
 // What open answers.

@@ -1,4 +1,4 @@
-// What an event is refused for: the conditions of a venue record, and the terms, the codes and the place of an entry.
+// What an event or a question is refused for: the conditions of a venue record, and the terms, the codes and the place of an entry.
 use crate::Entry;
 use crate::MayRefuse;
 use crate::Refusal;

@@ -19,7 +19,7 @@ fn front_number(front: FrontRead) -> u32
     ensures { λ r. ⌜ r ≡ frontNumber front ⌝ }
 {
     let read = front.read as u32;
-    if front.full {
+    if front.fills {
         return YES + read;
     }
     read
@@ -30,7 +30,7 @@ fn fill_number(answer: FillAnswer) -> u32
     ensures { λ r. ⌜ r ≡ hostAnswer (fillCount (outcomeOfFill answer)) ⌝ }
 {
     match answer {
-        FillAnswer::NotAsked(refusal) => refusals::number_of(refusal) * calls::REFUSAL_UNIT,
+        FillAnswer::Refused(refusal) => refusals::number_of(refusal) * calls::REFUSAL_UNIT,
         FillAnswer::Told(front) => front_number(front),
     }
 }

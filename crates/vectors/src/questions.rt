@@ -73,11 +73,16 @@ fn answer_question(words: &[u32], text: &[u8], from: usize) -> usize {
     let mark = read_decimal(text, from);
     let price = read_decimal(text, mark.end);
     let shares = read_decimal(text, price.end);
-    match fill::would_fill(words, word_of(mark.value), word_of(price.value), word_of(shares.value)) {
-        FillAnswer::NotAsked(refusal) => print_refusal(refusals::number_of(refusal)),
+    match fill::would_fill(
+        words,
+        word_of(mark.value),
+        word_of(price.value),
+        word_of(shares.value),
+    ) {
+        FillAnswer::Refused(refusal) => print_refusal(refusals::number_of(refusal)),
         FillAnswer::Told(front) => {
             let read = front.read as u64;
-            if front.full {
+            if front.fills {
                 print_answer(1, read);
             } else {
                 print_answer(2, read);

@@ -61,9 +61,9 @@ module _ (w : Order) (os : List Order) where
   front = take (frontRead w os .read) os
 
   -- the yes or no is that of the whole book
-  pub front-full : frontRead w os .full ≡ leb (w .shares) (allReached w os)
+  pub front-fills : frontRead w os .fills ≡ leb (w .shares) (allReached w os)
   unfolding frontRead suffices
-  front-full = refl
+  front-fills = refl
 
   -- no more orders are read than there are
   pub front-bound : frontRead w os .read ≤ length os
@@ -81,22 +81,22 @@ module _ (w : Order) (os : List Order) where
   short-enough l = least-passes (length os) (λ k. enough (take k os)) l
 
   -- for a yes it suffices
-  pub front-enough : frontRead w os .full ≡ true → T (leb (w .shares) (allReached w (take (frontRead w os .read) os)))
+  pub front-enough : frontRead w os .fills ≡ true → T (leb (w .shares) (allReached w (take (frontRead w os .read) os)))
   front-enough e = go (decLe (length os) (frontRead w os .read))
     where
       go : Dec (length os ≤ frontRead w os .read) → T (enough front)
-      go (yes l) = subst (λ (x : List Order). T (enough x)) (sym (take-all (frontRead w os .read) os l)) (subst T (sym (sym front-full ∙ e)) tt)
+      go (yes l) = subst (λ (x : List Order). T (enough x)) (sym (take-all (frontRead w os .read) os l)) (subst T (sym (sym front-fills ∙ e)) tt)
       go (no l) = short-enough (omega arith)
 
   -- for a no it is the whole book
-  pub front-whole : frontRead w os .full ≡ false → frontRead w os .read ≡ length os
+  pub front-whole : frontRead w os .fills ≡ false → frontRead w os .read ≡ length os
   front-whole e = go (decLe (length os) (frontRead w os .read))
     where
       go : Dec (length os ≤ frontRead w os .read) → frontRead w os .read ≡ length os
       go (yes l) = omega (arith, front-bound)
       go (no l) =
           let k = leb→le (w .shares) (allReached w front) (short-enough (omega arith)) in
-          absurd (subst T (sym front-full ∙ e) (le→leb (w .shares) (allReached w os) (omega (arith, k, take-reached (frontRead w os .read) w os))))
+          absurd (subst T (sym front-fills ∙ e) (le→leb (w .shares) (allReached w os) (omega (arith, k, take-reached (frontRead w os .read) w os))))
 
 -- matching
 

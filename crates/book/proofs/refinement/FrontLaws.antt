@@ -18,7 +18,7 @@ use Rattle.book.specs.rules.Words.{emptyOrder}
 
 -- reading order by order: n shares are missing, i orders were read
 abbrev pub readOn : ℕ → ℕ → Order → List Order → FrontRead
-readOn n i w os = record { full = suffices n w os; read = i + frontLength n w os }
+readOn n i w os = record { fills = suffices n w os; read = i + frontLength n w os }
 
 least-ext : (m : ℕ) (f g : ℕ → Bool) → ((k : ℕ) → f k ≡ g k) → leastBelow m f ≡ leastBelow m g
 unfolding leastBelow
@@ -51,20 +51,20 @@ module _ (n : ℕ) (w : Order) (l : List Order) (i : ℕ) (h : i < length l) whe
   abbrev found : ℕ
   found = sharesReached w (getD l i emptyOrder)
 
-  pub read-enough : 0 < n → n ≤ sharesReached w (getD l i emptyOrder) → readOn n i w (drop i l) ≡ record { full = true; read = i + 1 }
+  pub read-enough : 0 < n → n ≤ sharesReached w (getD l i emptyOrder) → readOn n i w (drop i l) ≡ record { fills = true; read = i + 1 }
   read-enough p e =
       let r = first-enough n w (getD l i emptyOrder) (drop (suc i) l) p e in
-      rw (drop-cons l i emptyOrder h) (ap₂ (λ (b : Bool) (k : ℕ). record { full = b; read = i + k }) (r .0) (r .1))
+      rw (drop-cons l i emptyOrder h) (ap₂ (λ (b : Bool) (k : ℕ). record { fills = b; read = i + k }) (r .0) (r .1))
 
   pub read-short : sharesReached w (getD l i emptyOrder) < n → readOn n i w (drop i l) ≡ readOn (n - sharesReached w (getD l i emptyOrder)) (i + 1) w (drop (i + 1) l)
   read-short e =
       let r = first-short n w (getD l i emptyOrder) (drop (suc i) l) e in
-      rw (drop-cons l i emptyOrder h, add-one) (ap₂ (λ (b : Bool) (k : ℕ). record { full = b; read = k }) (r .0) (ap (λ (k : ℕ). i + k) (r .1) ∙ omega arith))
+      rw (drop-cons l i emptyOrder h, add-one) (ap₂ (λ (b : Bool) (k : ℕ). record { fills = b; read = k }) (r .0) (ap (λ (k : ℕ). i + k) (r .1) ∙ omega arith))
 
 pub read-start : (w : Order) (l : List Order) → readOn (w .shares) 0 w (drop 0 l) ≡ frontRead w l
 unfolding frontRead
-read-start w l = ap (λ (k : ℕ). record { full = suffices (w .shares) w l; read = k }) (omega arith)
+read-start w l = ap (λ (k : ℕ). record { fills = suffices (w .shares) w l; read = k }) (omega arith)
 
-pub read-none : (n : ℕ) (w : Order) (l : List Order) (i : ℕ) → 0 < n → length l ≤ i → readOn n i w (drop i l) ≡ record { full = false; read = i }
+pub read-none : (n : ℕ) (w : Order) (l : List Order) (i : ℕ) → 0 < n → length l ≤ i → readOn n i w (drop i l) ≡ record { fills = false; read = i }
 unfolding suffices frontLength leastBelow allReached
-read-none n w l i p h = rw (drop-of-length-le l h, lt-leb n 0 p) (ap (λ (k : ℕ). record { full = false; read = k }) (omega arith))
+read-none n w l i p h = rw (drop-of-length-le l h, lt-leb n 0 p) (ap (λ (k : ℕ). record { fills = false; read = k }) (omega arith))

@@ -30,6 +30,6 @@ leastBelow (suc m) test = pick (test zero) zero (suc (leastBelow m (λ k. test (
 unfoldable pub frontLength : ℕ → Order → List Order → ℕ
 frontLength n w os = leastBelow (length os) (λ k. suffices n w (take k os))
 
--- whether w would fill in full, "equal to the one from the whole book", and "the count of orders read"
+-- "The yes or no equals the one from the whole book", and "the count of orders read"
 unfoldable pub frontRead : Order → List Order → FrontRead
-frontRead w os = record { full = suffices (w .shares) w os; read = frontLength (w .shares) w os }
+frontRead w os = record { fills = suffices (w .shares) w os; read = frontLength (w .shares) w os }

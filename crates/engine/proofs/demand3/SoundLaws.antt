@@ -59,6 +59,10 @@ module _ {g n s : ℕ} {os : List Order} (b : SoundBook g n s os) where
   pub book-distinct : Distinct os
   book-distinct = rises-distinct 0 os (b .rises)
 
+  -- an id above the last one is no order's
+  pub book-others : {i : ℕ} → n < i → All (Other i) os
+  book-others l = all-map (λ x k z. omega (arith, k .works .id, l)) os (b .orders)
+
   pub book-order : {o : Order} → List·Memᴰ o os → MayRest g n s o
   book-order m = taken-all (MayRest g n s) (mem-taken m book-distinct) (b .orders) .0
 
@@ -296,7 +300,7 @@ orderOf-sound v e f g =
             most = t .most;
           };
       newStamp = all-map (λ x k z. omega (arith, k .works .last)) (v .orders) (g .book .orders);
-      newId = all-map (λ x k z. omega (arith, k .works .id, p .newId)) (v .orders) (g .book .orders);
+      newId = book-others (g .book) (p .newId);
       positive = omega (arith, p .newId);
     }
 

@@ -1,5 +1,5 @@
 -- The question whether an entry would fill, over words: its refusals in their order, and what is told where none is given. Assumes nothing.
-use Prim.Native.Nat.{ℕ, _≤_, _<_}
+use Prim.Native.Nat.{ℕ, _≤_}
 use native.Mathlib.Omega.{arith}
 use mathlib.Core.Path.{_≡_, refl, sym, ap, _∙_}
 use mathlib.Core.Bool.{Bool, true, false, _||_}
@@ -14,7 +14,7 @@ use Rattle.book.specs.rules.Fill.{frontRead}
 use Rattle.book.specs.rules.Words.{resting, isBook}
 use Rattle.book.proofs.definitions.FillLaws.{front-bound}
 use Rattle.book.proofs.refinement.WordLaws.{isBook-book}
-use Rattle.engine.specs.rules.Working.{isMarket, orderOf}
+use Rattle.engine.specs.rules.Working.{isMarket}
 use Rattle.engine.specs.rules.Sound.{sound}
 use Rattle.engine.specs.rules.Refusals.{refuseUnless, firstOf, refusalOfTerms, refusalOfAsked}
 use Rattle.engine.specs.rules.Layout.{venueOf, soundWords}
@@ -42,6 +42,13 @@ asked-positive : (s mark price shares : ℕ) → Positive (refusalOfAsked s mark
 unfolding refusalOfAsked refusalOfTerms
 asked-positive s mark price shares =
     first-positive _ _ (refuse-positive _ 3 _ (omega arith) (refuse-positive _ 4 _ (omega arith) (refuse-positive _ 4 none (omega arith) tt))) (refuse-positive _ 18 none (omega arith) tt)
+
+-- where none is given there are shares to fill
+pub asked-shares : (s mark price shares : ℕ) → refusalOfAsked s mark price shares ≡ none → 1 ≤ shares
+unfolding refusalOfAsked refusalOfTerms
+asked-shares s mark price shares h =
+    let p = unrefused (isMarket price || legal s price) 3 _ (first-nothing (refusalOfTerms s price shares) _ h .0) in
+    leb→le 1 shares (unrefused (leb 1 shares) 4 _ (p .1) .0)
 
 pub fills-fit : FillsFit
 unfolding wouldFillIn wouldFill fillUnless venueOf
@@ -71,13 +78,6 @@ module _ (w : List ℕ) (mark price shares : ℕ) where
       (isBook w)
       (λ t. sym (ap (λ (x : Option ℕ). fillUnless x (venueOf w) mark price shares) (refuse-no (sound (venueOf w)) 16 refused (sym (and-yes (sound (venueOf w)) (T-true (isBook w) t)) ∙ h))))
       (λ t. refl)
-
-  -- where they give nothing there are shares to fill
-  pub asked-shares : refused ≡ none → 0 < askedOrder (venueOf w .market) mark price shares .shares
-  unfolding refusalOfAsked refusalOfTerms askedOrder orderOf
-  asked-shares h =
-      let p = unrefused (isMarket price || legal (venueOf w .market .step) price) 3 _ (first-nothing (refusalOfTerms (venueOf w .market .step) price shares) _ h .0) in
-      omega (arith, leb→le 1 shares (unrefused (leb 1 shares) 4 _ (p .1) .0))
 
   module _ (s : T (soundWords w)) where
     -- then the others

@@ -16,14 +16,14 @@ use Rattle.book.specs.declared.FrontRead.{FrontRead}
 use Rattle.book.specs.rules.Orders.{ifSame}
 use Rattle.book.specs.rules.Matching.{Execution, meeting, Matched, matching}
 use Rattle.book.specs.rules.Sound.{mostShares}
-use Rattle.book.specs.rules.Words.{isBook}
+use Rattle.book.specs.rules.Words.{resting, isBook}
 use Rattle.book.specs.rules.Fill.{allReached, frontRead}
 use Rattle.book.proofs.definitions.ShareLaws.{ifSame-same, ifSame-other}
 use Rattle.book.proofs.definitions.OrderLaws.{idOf, Other, Distinct, taken-all, mem-taken}
 use Rattle.book.proofs.definitions.CounterpartyLaws.{Reached}
 use Rattle.book.proofs.definitions.MeetingLaws.{execution-by, meeting-known}
 use Rattle.book.proofs.definitions.MatchingLaws.{afterTrade-all, afterTrade-differ, matching-keeps}
-use Rattle.book.proofs.definitions.FillLaws.{front-full, front-enough, front-shortest, front-whole, reached-alike, matching-left}
+use Rattle.book.proofs.definitions.FillLaws.{front-fills, front-enough, front-shortest, front-whole, reached-alike, matching-left}
 use Rattle.engine.specs.declared.Market.{Market}
 use Rattle.engine.specs.declared.Entry.{Entry}
 use Rattle.engine.specs.declared.Event.{Event}
@@ -42,11 +42,12 @@ use Rattle.engine.specs.rules.Layout.{venueOf, stepIn}
 use Rattle.engine.specs.rules.Fill.{askedOrder, fillUnless, wouldFill, wouldFillIn, outcomeOfFill}
 use Rattle.engine.specs.claims.RoundTrips.{Word}
 use Rattle.engine.specs.claims.Calls.{Applied}
-use Rattle.engine.specs.claims.Fill.{ReadShortest, ReadsShortest, NothingElseMatters, refusalGiven, ofVenueOrTerms, RefusedAsEntries, RefusedAsEntriesInCalls, executedBy, executedFor, TrueOf, TellsTheTruth, TrueOfBytes, TellsTheTruthOfCalls}
-use Rattle.engine.proofs.refinement.RefuseLaws.{refuse-yes}
+use Rattle.engine.specs.claims.Fill.{ReadShortest, ReadsShortest, ReadsShortestInCalls, refusalGiven, ofVenueTermsOrMark, RefusedByKind, RefusedAsEntries, RefusedAsEntriesInCalls, executedBy, executedFor, TrueOf, TrueOfTheEffect, TellsTheTruth, TrueOfBytes, TellsTheTruthOfCalls}
+use Rattle.engine.proofs.refinement.RefuseLaws.{refuse-yes, unrefused}
 use Rattle.engine.proofs.refinement.RefusalLaws.{NotRefused, Unless, refusal-known}
 use Rattle.engine.proofs.refinement.OpeningLaws.{step-in}
-use Rattle.engine.proofs.demand3.SoundLaws.{sound-venue, book-distinct, orderOf-sound}
+use Rattle.engine.proofs.refinement.QuestionLaws.{asked-shares}
+use Rattle.engine.proofs.demand3.SoundLaws.{sound-venue, book-distinct, book-others}
 use Rattle.engine.proofs.demand3.CallLaws.{Readable, step-readable, bytes-read}
 
 -- The answer by the book
@@ -55,9 +56,9 @@ module _ (v : Venue) (mark price shares : ℕ) where
   abbrev theFront : FrontRead
   theFront = frontRead (askedOrder (v .market) mark price shares) (v .orders)
 
-  told : (x : Option ℕ) (r : FrontRead) → fillUnless x v mark price shares ≡ gives r → theFront ≡ r
+  told : (x : Option ℕ) (r : FrontRead) → fillUnless x v mark price shares ≡ gives r → (x ≡ none) × (theFront ≡ r)
   unfolding fillUnless
-  told none r e = cc
+  told none r e = (refl, cc)
   told (some n) r e = let z : _≡_ {A = ℕ} 0 1 = cc in absurd (omega arith)
 
 pub reads-shortest : ReadsShortest
@@ -66,75 +67,63 @@ reads-shortest v mark price shares r e =
     let w : Order = askedOrder (v .market) mark price shares in
     subst
     (ReadShortest w (v .orders))
-    (told v mark price shares _ r e)
-    (record { whole = front-full w (v .orders); enough = front-enough w (v .orders); shortest = front-shortest w (v .orders); all = front-whole w (v .orders) })
-
-same-told : (x : Option ℕ) (v u : Venue) → v.market ≡ u.market → v.orders ≡ u.orders → (mark price shares : ℕ) → fillUnless x v mark price shares ≡ fillUnless x u mark price shares
-unfolding fillUnless
-same-told none v u m o mark price shares = rw (m, o)
-same-told (some n) v u m o mark price shares = refl
-
-pub nothing-else-matters : NothingElseMatters
-unfolding wouldFill
-nothing-else-matters v u s m o mark price shares =
-    ap (λ (b : Bool). fillUnless (refuseUnless b 16 (refusalOfAsked (v.market.step) mark price shares)) v mark price shares) s
-    ∙ ap (λ (k : Market). fillUnless (refuseUnless (sound u) 16 (refusalOfAsked (k .step) mark price shares)) v mark price shares) m
-    ∙ same-told _ v u m o mark price shares
+    (told v mark price shares _ r e .1)
+    (record { whole = front-fills w (v .orders); enough = front-enough w (v .orders); shortest = front-shortest w (v .orders); all = front-whole w (v .orders) })
 
 -- Its refusals
 
-asked-later : (b : Bool) (n : ℕ) (later : Option ℕ) → ofVenueOrTerms (some n) ≡ some n → ofVenueOrTerms (refuseUnless b n later) ≡ refuseUnless b n (ofVenueOrTerms later)
+asked-later : (b : Bool) (n : ℕ) (later : Option ℕ) → ofVenueTermsOrMark (some n) ≡ some n → ofVenueTermsOrMark (refuseUnless b n later) ≡ refuseUnless b n (ofVenueTermsOrMark later)
 unfolding refuseUnless
 asked-later true n later k = refl
 asked-later false n later k = k
 
-others-later : (b : Bool) (n : ℕ) (later : Option ℕ) → ofVenueOrTerms (some n) ≡ none → ofVenueOrTerms later ≡ none → ofVenueOrTerms (refuseUnless b n later) ≡ none
+others-later : (b : Bool) (n : ℕ) (later : Option ℕ) → ofVenueTermsOrMark (some n) ≡ none → ofVenueTermsOrMark later ≡ none → ofVenueTermsOrMark (refuseUnless b n later) ≡ none
 unfolding refuseUnless
 others-later true n later k h = h
 others-later false n later k h = k
 
-asked-first : (r later : Option ℕ) → ofVenueOrTerms r ≡ r → ofVenueOrTerms (firstOf r later) ≡ firstOf r (ofVenueOrTerms later)
+asked-first : (r later : Option ℕ) → ofVenueTermsOrMark r ≡ r → ofVenueTermsOrMark (firstOf r later) ≡ firstOf r (ofVenueTermsOrMark later)
 unfolding firstOf
 asked-first none later k = refl
 asked-first (some n) later k = k
 
-others-first : (r later : Option ℕ) → ofVenueOrTerms r ≡ none → ofVenueOrTerms later ≡ none → ofVenueOrTerms (firstOf r later) ≡ none
+others-first : (r later : Option ℕ) → ofVenueTermsOrMark r ≡ none → ofVenueTermsOrMark later ≡ none → ofVenueTermsOrMark (firstOf r later) ≡ none
 unfolding firstOf
 others-first none later k h = h
 others-first (some n) later k h = k
 
-none-asked : ofVenueOrTerms none ≡ none
-unfolding ofVenueOrTerms
+none-asked : ofVenueTermsOrMark none ≡ none
+unfolding ofVenueTermsOrMark
 none-asked = refl
 
-terms-asked : (s price shares : ℕ) → ofVenueOrTerms (refusalOfTerms s price shares) ≡ refusalOfTerms s price shares
-unfolding refusalOfTerms ofVenueOrTerms pick
+terms-asked : (s price shares : ℕ) → ofVenueTermsOrMark (refusalOfTerms s price shares) ≡ refusalOfTerms s price shares
+unfolding refusalOfTerms ofVenueTermsOrMark pick
 terms-asked s price shares =
     asked-later _ 3 _ refl ∙ rw (asked-later (leb 1 shares) 4 _ refl, asked-later (leb shares mostShares) 4 none refl)
 
-codes-others : (e : Entry) → ofVenueOrTerms (refusalOfOtherCodes e) ≡ none
-unfolding ofVenueOrTerms pick
+codes-others : (e : Entry) → ofVenueTermsOrMark (refusalOfOtherCodes e) ≡ none
+unfolding ofVenueTermsOrMark pick
 codes-others e = others-later _ 5 _ refl (others-later _ 5 _ refl (others-later _ 19 _ refl (others-later _ 20 none refl refl)))
 
-place-others : (v : Venue) (id : ℕ) → ofVenueOrTerms (refusalOfPlace v id) ≡ none
-unfolding refusalOfPlace ofVenueOrTerms pick
+place-others : (v : Venue) (id : ℕ) → ofVenueTermsOrMark (refusalOfPlace v id) ≡ none
+unfolding refusalOfPlace ofVenueTermsOrMark pick
 place-others v id = others-later _ 6 _ refl (others-later _ 7 none refl refl)
 
-codes-and-place : (b : Bool) (codes place : Option ℕ) → ofVenueOrTerms codes ≡ none → ofVenueOrTerms place ≡ none → ofVenueOrTerms (firstOf (refuseUnless b 18 codes) place) ≡ refuseUnless b 18 none
-unfolding refuseUnless firstOf ofVenueOrTerms pick
+codes-and-place : (b : Bool) (codes place : Option ℕ) → ofVenueTermsOrMark codes ≡ none → ofVenueTermsOrMark place ≡ none → ofVenueTermsOrMark (firstOf (refuseUnless b 18 codes) place) ≡ refuseUnless b 18 none
+unfolding refuseUnless firstOf ofVenueTermsOrMark pick
 codes-and-place true codes place c p = others-first codes place c p
 codes-and-place false codes place c p = refl
 
-kind-asked : (v : Venue) (e : Entry) → ofVenueOrTerms (refusalOfKind v (entry e)) ≡ refusalOfAsked (v.market.step) (e .mark) (e .price) (e .shares)
+kind-asked : (v : Venue) (e : Entry) → ofVenueTermsOrMark (refusalOfKind v (entry e)) ≡ refusalOfAsked (v.market.step) (e .mark) (e .price) (e .shares)
 unfolding refusalOfKind refusalOfAsked refusalOfCodes
 kind-asked v e =
     asked-first (refusalOfTerms (v.market.step) (e .price) (e .shares)) _ (terms-asked (v.market.step) (e .price) (e .shares))
     ∙ ap (firstOf (refusalOfTerms (v.market.step) (e .price) (e .shares))) (codes-and-place _ (refusalOfOtherCodes e) (refusalOfPlace v (e .id)) (codes-others e) (place-others v (e .id)))
 
-refusal-asked : (v : Venue) (e : Entry) (n : ℕ) → leastBuffer ≤ n → v.acceptedEvents < mostEvents → ofVenueOrTerms (refusal v (entry e) n) ≡ refuseUnless (sound v) 16 (refusalOfAsked (v.market.step) (e .mark) (e .price) (e .shares))
-unfolding refusal ofVenueOrTerms pick
+refusal-asked : (v : Venue) (e : Entry) (n : ℕ) → leastBuffer ≤ n → v.acceptedEvents < mostEvents → ofVenueTermsOrMark (refusal v (entry e) n) ≡ refuseUnless (sound v) 16 (refusalOfAsked (v.market.step) (e .mark) (e .price) (e .shares))
+unfolding refusal ofVenueTermsOrMark pick
 refusal-asked v e n b a =
-    asked-later (sound v) 16 _ refl ∙ ap (refuseUnless (sound v) 16) (ap ofVenueOrTerms (refuse-yes _ 1 _ (le-leb leastBuffer n b) ∙ refuse-yes _ 2 _ (lt-ltb (v .acceptedEvents) mostEvents a)) ∙ kind-asked v e)
+    asked-later (sound v) 16 _ refl ∙ ap (refuseUnless (sound v) 16) (ap ofVenueTermsOrMark (refuse-yes _ 1 _ (le-leb leastBuffer n b) ∙ refuse-yes _ 2 _ (lt-ltb (v .acceptedEvents) mostEvents a)) ∙ kind-asked v e)
 
 -- what was answered says what was refused
 
@@ -148,10 +137,15 @@ unfolding stepUnless
 step-given none v e = refl
 step-given (some n) v e = refl
 
+pub refused-by-kind : RefusedByKind
+unfolding wouldFill
+refused-by-kind v e =
+    fill-given _ v (e .mark) (e .price) (e .shares) ∙ ap (refuseUnless (sound v) 16) (sym (kind-asked v e))
+
 pub refused-as-entries : RefusedAsEntries
 unfolding wouldFill step
 refused-as-entries v e n b a =
-    fill-given _ v (e .mark) (e .price) (e .shares) ∙ sym (refusal-asked v e n b a) ∙ ap ofVenueOrTerms (sym (step-given (refusal v (entry e) n) v e))
+    fill-given _ v (e .mark) (e .price) (e .shares) ∙ sym (refusal-asked v e n b a) ∙ ap ofVenueTermsOrMark (sym (step-given (refusal v (entry e) n) v e))
 
 -- The truth about entries
 
@@ -204,9 +198,9 @@ asked-reached : (m : Market) (s : ℕ) (e : Entry) (os : List Order) → allReac
 unfolding askedOrder orderOf
 asked-reached m s e os = reached-alike (askedOrder m (e .mark) (e .price) (e .shares)) (orderOf m s e) refl refl os
 
--- an entry that isn't refused
+-- what an entry would do
 
-module _ (v : Venue) (e : Entry) (n : ℕ) (r : refusal v (entry e) n ≡ none) where
+module _ (v : Venue) (e : Entry) where
   abbrev asked : Order
   asked = askedOrder (v .market) (e .mark) (e .price) (e .shares)
 
@@ -216,35 +210,47 @@ module _ (v : Venue) (e : Entry) (n : ℕ) (r : refusal v (entry e) n ≡ none) 
   abbrev theReports : List Report
   theReports = effectOfEntry (v .market) v e .reports
 
-  known : NotRefused v (entry e) n
-  known = subst (λ (x : Option ℕ). Unless x (NotRefused v (entry e) n)) r (refusal-known v (entry e) n)
-
-  -- the question isn't either
-  question-given : wouldFill v (e .mark) (e .price) (e .shares) ≡ gives (frontRead asked (v .orders))
-  unfolding wouldFill fillUnless ofVenueOrTerms
-  question-given =
-      ap (λ (x : Option ℕ). fillUnless x v (e .mark) (e .price) (e .shares)) (sym (refusal-asked v e n (known .buffer) (known .events)) ∙ ap ofVenueOrTerms r)
-
   work-reports : executedFor (e .id) theReports ≡ executedFor (working .id) (work working (v .orders) .reports)
   unfolding effectOfEntry entering executedFor orderOf
   work-reports = omega arith
 
-  -- its reports execute those of its shares that it reaches
-  entry-executed : executedFor (e .id) theReports + (e.shares - allReached asked (v .orders)) ≡ e.shares
-  unfolding orderOf
-  entry-executed =
-      let g = orderOf-sound v e (known .allowed) (sound-venue v (known .sound)) in
-      omega (arith, work-reports, asked-reached (v .market) (v .lastStamp + 1) e (v .orders), work-executed working (v .orders) (g .newId) (book-distinct (g .book)))
+  module _ (s : T (sound v)) (i : v.lastId < e.id) where
+    -- its reports execute those of its shares that it reaches
+    entry-executed : executedFor (e .id) theReports + (e.shares - allReached asked (v .orders)) ≡ e.shares
+    unfolding orderOf
+    entry-executed =
+        let g = sound-venue v s .book in
+        omega (arith, work-reports, asked-reached (v .market) (v .lastStamp + 1) e (v .orders), work-executed working (v .orders) (book-others g i) (book-distinct g))
 
-  all-executed : leb (e .shares) (allReached asked (v .orders)) ≡ eqb (executedFor (e .id) theReports) (e .shares)
-  all-executed =
-      let k : ℕ = allReached asked (v .orders) in
-      let x : ℕ = executedFor (e .id) theReports in
-      bool-ext (leb (e .shares) k) (eqb x (e .shares)) (λ t. eq→T {m = x} {n = e.shares} (omega (arith, leb→le (e .shares) k t, entry-executed))) (λ t. le→leb (e .shares) k (omega (arith, eqb→eq x (e .shares) t, entry-executed, known .allowed .terms .least)))
+    all-executed : 1 ≤ e.shares → leb (e .shares) (allReached asked (v .orders)) ≡ eqb (executedFor (e .id) theReports) (e .shares)
+    all-executed p =
+        let k : ℕ = allReached asked (v .orders) in
+        let x : ℕ = executedFor (e .id) theReports in
+        bool-ext (leb (e .shares) k) (eqb x (e .shares)) (λ t. eq→T {m = x} {n = e.shares} (omega (arith, leb→le (e .shares) k t, entry-executed))) (λ t. le→leb (e .shares) k (omega (arith, eqb→eq x (e .shares) t, entry-executed, p)))
 
-  accepted-true : TrueOf e theReports (wouldFill v (e .mark) (e .price) (e .shares))
-  unfolding askedOrder orderOf
-  accepted-true = record { front = frontRead asked (v .orders); answers = question-given; truth = front-full asked (v .orders) ∙ all-executed }
+pub true-of-the-effect : TrueOfTheEffect
+unfolding wouldFill askedOrder orderOf
+true-of-the-effect v e i r q =
+    let w : Order = askedOrder (v .market) (e .mark) (e .price) (e .shares) in
+    let t = told v (e .mark) (e .price) (e .shares) _ r q in
+    let u = unrefused (sound v) 16 _ (t .0) in
+    ap (λ (f : FrontRead). f .fills) (sym (t .1)) ∙ front-fills w (v .orders) ∙ all-executed v e (u .0) i (asked-shares (v.market.step) (e .mark) (e .price) (e .shares) (u .1))
+
+-- an entry that isn't refused
+
+module _ (v : Venue) (e : Entry) (n : ℕ) (r : refusal v (entry e) n ≡ none) where
+  known : NotRefused v (entry e) n
+  known = subst (λ (x : Option ℕ). Unless x (NotRefused v (entry e) n)) r (refusal-known v (entry e) n)
+
+  -- the question isn't either
+  question-given : wouldFill v (e .mark) (e .price) (e .shares) ≡ gives (frontRead (asked v e) (v .orders))
+  unfolding wouldFill fillUnless ofVenueTermsOrMark
+  question-given =
+      ap (λ (x : Option ℕ). fillUnless x v (e .mark) (e .price) (e .shares)) (sym (refusal-asked v e n (known .buffer) (known .events)) ∙ ap ofVenueTermsOrMark r)
+
+  accepted-true : TrueOf e (theReports v e) (wouldFill v (e .mark) (e .price) (e .shares))
+  accepted-true =
+      record { front = frontRead (asked v e) (v .orders); answers = question-given; truth = true-of-the-effect v e (known .allowed .place .newId) _ question-given }
 
 pub tells-the-truth : TellsTheTruth
 unfolding step stepUnless effectOf
@@ -262,6 +268,18 @@ tells-the-truth v e n rs q = go (refusal v (entry e) n) refl q
 in-words : (w : List ℕ) (mark price shares : ℕ) → T (isBook w) → wouldFillIn w mark price shares ≡ wouldFill (venueOf w) mark price shares
 unfolding wouldFillIn
 in-words w mark price shares t = pick-yes (isBook w) _ _ t
+
+pub in-words-shortest : (w : List ℕ) (mark price shares : ℕ) (r : FrontRead) → wouldFillIn w mark price shares ≡ gives r → ReadShortest (askedOrder (venueOf w .market) mark price shares) (resting w) r
+unfolding wouldFillIn venueOf
+in-words-shortest w mark price shares r =
+    by-test
+    (λ (o : Outcome FrontRead). o ≡ gives r → ReadShortest (askedOrder (venueOf w .market) mark price shares) (resting w) r)
+    (isBook w)
+    (λ t q. reads-shortest (venueOf w) mark price shares r q)
+    (λ t q. let z : _≡_ {A = ℕ} 0 1 = cc in absurd (omega arith))
+
+pub reads-shortest-in-calls : ReadsShortestInCalls
+reads-shortest-in-calls w mark price shares t q r e = in-words-shortest w mark price shares r (sym q ∙ e)
 
 laid-out : (w : List ℕ) (e : Event) (n : ℕ) (rs : List Report) → stepIn w e n .answer ≡ gives rs → T (isBook w)
 unfolding stepIn
@@ -293,18 +311,18 @@ count-given (refuses n) = refl
 
 -- words that are laid out as no venue are refused with 16 in both
 module _ (w : List ℕ) (e : Entry) (n : ℕ) (l : leastBuffer ≤ n) (a : venueOf w .acceptedEvents < mostEvents) where
-  chosen : (laid : Bool) → refusalGiven (pick laid (wouldFill (venueOf w) (e .mark) (e .price) (e .shares)) (refuses 16)) ≡ ofVenueOrTerms (refusalGiven (pick laid (step (venueOf w) (entry e) n) (record { answer = refuses 16; venue = venueOf w }) .answer))
-  unfolding pick ofVenueOrTerms
+  chosen : (laid : Bool) → refusalGiven (pick laid (wouldFill (venueOf w) (e .mark) (e .price) (e .shares)) (refuses 16)) ≡ ofVenueTermsOrMark (refusalGiven (pick laid (step (venueOf w) (entry e) n) (record { answer = refuses 16; venue = venueOf w }) .answer))
+  unfolding pick ofVenueTermsOrMark
   chosen true = refused-as-entries (venueOf w) e n l a
   chosen false = refl
 
-  refused-in-words : refusalGiven (wouldFillIn w (e .mark) (e .price) (e .shares)) ≡ ofVenueOrTerms (refusalGiven (stepIn w (entry e) n .answer))
+  refused-in-words : refusalGiven (wouldFillIn w (e .mark) (e .price) (e .shares)) ≡ ofVenueTermsOrMark (refusalGiven (stepIn w (entry e) n .answer))
   unfolding wouldFillIn stepIn
   refused-in-words = chosen (isBook w)
 
-pub refused-in-call : (w : List ℕ) (e : Entry) {b : List ℕ} {answer : Outcome ℕ} {w′ b′ : List ℕ} → Applied w (entry e) b answer w′ b′ → leastBuffer ≤ length b → venueOf w .acceptedEvents < mostEvents → {o : Outcome FrontRead} → o ≡ wouldFillIn w (e .mark) (e .price) (e .shares) → refusalGiven o ≡ ofVenueOrTerms (refusalGiven answer)
+pub refused-in-call : (w : List ℕ) (e : Entry) {b : List ℕ} {answer : Outcome ℕ} {w′ b′ : List ℕ} → Applied w (entry e) b answer w′ b′ → leastBuffer ≤ length b → venueOf w .acceptedEvents < mostEvents → {o : Outcome FrontRead} → o ≡ wouldFillIn w (e .mark) (e .price) (e .shares) → refusalGiven o ≡ ofVenueTermsOrMark (refusalGiven answer)
 refused-in-call w e {b} a l n q =
-    ap refusalGiven q ∙ refused-in-words w e (length b) l n ∙ ap ofVenueOrTerms (sym (ap refusalGiven (a .answers) ∙ count-given (stepIn w (entry e) (length b) .answer)))
+    ap refusalGiven q ∙ refused-in-words w e (length b) l n ∙ ap ofVenueTermsOrMark (sym (ap refusalGiven (a .answers) ∙ count-given (stepIn w (entry e) (length b) .answer)))
 
 pub refused-as-entries-in-calls : RefusedAsEntriesInCalls
 refused-as-entries-in-calls w e b answer w′ b′ a l n told q = refused-in-call w e a l n q

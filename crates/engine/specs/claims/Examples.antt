@@ -179,10 +179,10 @@ abbrev pub toldTo : Venue → List Question → List (Outcome FrontRead)
 toldTo v qs = map (λ (q : Question). wouldFill v (q .mark) (q .price) (q .shares)) qs
 
 abbrev pub yes : ℕ → Outcome FrontRead
-yes n = gives (record { full = true; read = n })
+yes n = gives (record { fills = true; read = n })
 
 abbrev pub no : ℕ → Outcome FrontRead
-no n = gives (record { full = false; read = n })
+no n = gives (record { fills = false; read = n })
 
 -- a restricted short reaches the orders 3 and 4 alone, at 91,100
 abbrev pub fillEvents : List Event
@@ -208,10 +208,10 @@ halfCentQuestions =
 abbrev pub halfCentFillAnswers : List (Outcome FrontRead)
 halfCentFillAnswers = yes 4 ∷ yes 4 ∷ no 4 ∷ yes 4 ∷ no 4 ∷ refuses 3 ∷ refuses 4 ∷ []
 
--- a record with phase 3
-abbrev pub brokenVenue : Venue
-brokenVenue =
-    record { market = record { close = 100_000; phase = 3; bid = 91_000; step = 100 }; orders = []; lastId = 0; lastStamp = 0; acceptedEvents = 2 }
+-- no orders, in a phase, after so many accepted events
+abbrev pub emptyVenue : ℕ → ℕ → Venue
+emptyVenue phase events =
+    record { market = record { close = 100_000; phase = phase; bid = 91_000; step = 100 }; orders = []; lastId = 0; lastStamp = 0; acceptedEvents = events }
 
 abbrev pub venueAfterAt : ℕ → List Event → Venue
 venueAfterAt s es = (run (opened s 100_000) (map callOf es)) .venue
@@ -219,8 +219,9 @@ venueAfterAt s es = (run (opened s 100_000) (map callOf es)) .venue
 pub record FillsTold : Type 0 where
   pub cents : toldTo (venueAfterAt 100 fillEvents) fillQuestions ≡ fillAnswers
   pub halfCents : toldTo (venueAfterAt 50 halfCentFillEvents) halfCentQuestions ≡ halfCentFillAnswers
-  pub empty : wouldFill (opened 100 100_000) 0 0 1 ≡ no 0
-  pub broken : wouldFill brokenVenue 9 90_050 0 ≡ refuses 16
+  pub empty : wouldFill (emptyVenue 2 2) 0 0 1 ≡ no 0
+  pub spent : wouldFill (emptyVenue 2 16_777_215) 0 0 1 ≡ no 0
+  pub broken : wouldFill (emptyVenue 3 2) 9 90_050 0 ≡ refuses 16
 
 -- other steps than 50 and 100 (No. 2), beside a close, a bid and a price that are refused at every step: "refused with 17, before the close or price is looked
 -- at"; in a venue record whose close is legal by itself "it is a broken condition"

@@ -12,13 +12,14 @@ use Rattle.book.specs.declared.Order.{Order}
 use Rattle.book.specs.declared.FrontRead.{FrontRead}
 use Rattle.book.specs.rules.Orders.{ifSame}
 use Rattle.book.specs.rules.Fill.{allReached}
+use Rattle.book.specs.rules.Words.{resting}
 use Rattle.engine.specs.declared.Entry.{Entry}
 use Rattle.engine.specs.declared.Event.the-variants.{Entry as entry}
 use Rattle.engine.specs.declared.FillAnswer.{FillAnswer}
 use Rattle.engine.specs.rules.Reports.{Report, accepted, executed, cancelled, repriced, restrictionStarts, dayEnded}
-use Rattle.engine.specs.rules.Venue.{Venue}
+use Rattle.engine.specs.rules.Venue.{Venue, effectOfEntry}
 use Rattle.engine.specs.rules.Sound.{mostOrders, mostEvents, sound}
-use Rattle.engine.specs.rules.Refusals.{leastBuffer}
+use Rattle.engine.specs.rules.Refusals.{refuseUnless, refusalOfKind, leastBuffer}
 use Rattle.engine.specs.rules.Run.{step}
 use Rattle.engine.specs.rules.Records.{reportsUpTo}
 use Rattle.engine.specs.rules.Layout.{venueOf}
@@ -28,17 +29,17 @@ use Rattle.engine.specs.claims.Calls.{Applied}
 
 -- The answer by the book
 
--- the order w would fill in full: those of the orders that it reaches have its shares
+-- the order w would fill in full: the orders that it reaches have its shares or more
 abbrev pub fillsFrom : Order → List Order → Bool
 fillsFrom w os = leb (w .shares) (allReached w os)
 
 -- "The yes or no equals the one from the whole book. The result carries the count of orders read, equal to the shortest front of the book that suffices, or
 -- the whole book."
 pub record ReadShortest (w : Order) (os : List Order) (r : FrontRead) : Type 0 where
-  pub whole : r.full ≡ fillsFrom w os
-  pub enough : r.full ≡ true → T (fillsFrom w (take (r .read) os))
+  pub whole : r.fills ≡ fillsFrom w os
+  pub enough : r.fills ≡ true → T (fillsFrom w (take (r .read) os))
   pub shortest : (j : ℕ) → j < r.read → T (not (fillsFrom w (take j os)))
-  pub all : r.full ≡ false → r.read ≡ length os
+  pub all : r.fills ≡ false → r.read ≡ length os
 
 abbrev pub ReadsShortest : Type 0
 ReadsShortest =
@@ -53,11 +54,11 @@ FillFits (refuses n) = 1 ≤ n
 abbrev pub FillsFit : Type 0
 FillsFit = (w : List ℕ) (mark price shares : ℕ) → FillFits (wouldFillIn w mark price shares)
 
--- "a full book or spent events don't matter to it": nothing does but the venue check, the market and the orders
-abbrev pub NothingElseMatters : Type 0
-NothingElseMatters =
-    (v u : Venue) → sound v ≡ sound u → v.market ≡ u.market → v.orders ≡ u.orders →
-    (mark price shares : ℕ) → wouldFill v mark price shares ≡ wouldFill u mark price shares
+-- the same of the calls
+abbrev pub ReadsShortestInCalls : Type 0
+ReadsShortestInCalls =
+    (w : List ℕ) (mark price shares : ℕ) (told : FillAnswer) → outcomeOfFill told ≡ wouldFillIn w mark price shares →
+    (r : FrontRead) → outcomeOfFill told ≡ gives r → ReadShortest (askedOrder (venueOf w .market) mark price shares) (resting w) r
 
 -- Its refusals
 
@@ -65,16 +66,22 @@ abbrev pub refusalGiven : {A : Type 0} → Outcome A → Option ℕ
 refusalGiven (gives x) = none
 refusalGiven (refuses n) = some n
 
--- the refusals of an entry that are for "venue check, price, shares and mark"; any other is read as none
-unfoldable pub ofVenueOrTerms : Option ℕ → Option ℕ
-ofVenueOrTerms none = none
-ofVenueOrTerms (some n) = pick (eqb n 16 || (eqb n 3 || (eqb n 4 || eqb n 18))) (some n) none
+-- those of an entry's refusals that are for "venue check, price, shares and mark"; any other is read as none
+unfoldable pub ofVenueTermsOrMark : Option ℕ → Option ℕ
+ofVenueTermsOrMark none = none
+ofVenueTermsOrMark (some n) = pick (eqb n 16 || (eqb n 3 || (eqb n 4 || eqb n 18))) (some n) none
 
--- they "are refused as in an entry": of an entry with a long enough buffer, while events are left
+-- they "are refused as in an entry", and "a full book or spent events don't matter": of every venue, by the refusals of an entry's kind
+abbrev pub RefusedByKind : Type 0
+RefusedByKind =
+    (v : Venue) (e : Entry) →
+    refusalGiven (wouldFill v (e .mark) (e .price) (e .shares)) ≡ refuseUnless (sound v) 16 (ofVenueTermsOrMark (refusalOfKind v (entry e)))
+
+-- by the answer of an entry that has a long enough buffer, while events are left
 abbrev pub RefusedAsEntries : Type 0
 RefusedAsEntries =
     (v : Venue) (e : Entry) (n : ℕ) → leastBuffer ≤ n → v.acceptedEvents < mostEvents →
-    refusalGiven (wouldFill v (e .mark) (e .price) (e .shares)) ≡ ofVenueOrTerms (refusalGiven (step v (entry e) n .answer))
+    refusalGiven (wouldFill v (e .mark) (e .price) (e .shares)) ≡ ofVenueTermsOrMark (refusalGiven (step v (entry e) n .answer))
 
 -- the same of the calls
 abbrev pub RefusedAsEntriesInCalls : Type 0
@@ -82,7 +89,7 @@ RefusedAsEntriesInCalls =
     (w : List ℕ) (e : Entry) (b : List ℕ) (answer : Outcome ℕ) (w′ b′ : List ℕ) → Applied w (entry e) b answer w′ b′ →
     leastBuffer ≤ length b → venueOf w .acceptedEvents < mostEvents →
     (told : FillAnswer) → outcomeOfFill told ≡ wouldFillIn w (e .mark) (e .price) (e .shares) →
-    refusalGiven (outcomeOfFill told) ≡ ofVenueOrTerms (refusalGiven answer)
+    refusalGiven (outcomeOfFill told) ≡ ofVenueTermsOrMark (refusalGiven answer)
 
 -- The truth about entries
 
@@ -103,16 +110,24 @@ executedFor k (r ∷ rs) = executedBy k r + executedFor k rs
 pub record TrueOf (e : Entry) (rs : List Report) (answer : Outcome FrontRead) : Type 0 where
   pub front : FrontRead
   pub answers : answer ≡ gives front
-  pub truth : front.full ≡ eqb (executedFor (e .id) rs) (e .shares)
+  pub truth : front.fills ≡ eqb (executedFor (e .id) rs) (e .shares)
 
--- "tell whether an entry would fill in full now": where an entry is accepted, whatever its show, life and slide, the answer for its mark, price and shares is
+-- "tell whether an entry would fill in full now": for every entry with a new id, whether or not it would be accepted, the answer for its mark, price and
+-- shares is true of what it would report; "a full book or spent events don't matter to it"
+abbrev pub TrueOfTheEffect : Type 0
+TrueOfTheEffect =
+    (v : Venue) (e : Entry) → v.lastId < e.id → (r : FrontRead) → wouldFill v (e .mark) (e .price) (e .shares) ≡ gives r →
+    r.fills ≡ eqb (executedFor (e .id) (effectOfEntry (v .market) v e .reports)) (e .shares)
+
+-- where an entry is accepted, whatever its show, life and slide, the answer for its mark, price and shares is
 -- true of its reports
 abbrev pub TellsTheTruth : Type 0
 TellsTheTruth =
     (v : Venue) (e : Entry) (n : ℕ) (rs : List Report) → step v (entry e) n .answer ≡ gives rs →
     TrueOf e rs (wouldFill v (e .mark) (e .price) (e .shares))
 
--- the same of the calls, by the report bytes: what would_fill tells of any words is true of the reports of every entry that apply then accepts on them
+-- the same of the calls, by the report bytes: what would_fill tells of any words is true of the reports of every entry, with a 32-bit id, that apply then
+-- accepts on them
 pub record TrueOfBytes (e : Entry) (after : List ℕ) (count : ℕ) (answer : Outcome FrontRead) : Type 0 where
   pub read : List Report
   pub readable : reportsUpTo after count ≡ some read

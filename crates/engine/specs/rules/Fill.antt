@@ -11,7 +11,7 @@ use Rattle.book.specs.rules.Words.{isBook}
 use Rattle.engine.specs.declared.Market.{Market}
 use Rattle.engine.specs.declared.Entry.{Entry}
 use Rattle.engine.specs.declared.FillAnswer.{FillAnswer}
-use Rattle.engine.specs.declared.FillAnswer.the-variants.{Told, NotAsked}
+use Rattle.engine.specs.declared.FillAnswer.the-variants.{Told, Refused}
 use Rattle.engine.specs.rules.Working.{orderOf}
 use Rattle.engine.specs.rules.Venue.{Venue}
 use Rattle.engine.specs.rules.Sound.{sound}
@@ -44,4 +44,4 @@ wouldFillIn w mark price shares = pick (isBook w) (wouldFill (venueOf w) mark pr
 -- the paper's terms for an answer
 abbrev pub outcomeOfFill : FillAnswer → Outcome FrontRead
 outcomeOfFill (Told r) = gives r
-outcomeOfFill (NotAsked r) = refuses (refusalNumber r)
+outcomeOfFill (Refused r) = refuses (refusalNumber r)

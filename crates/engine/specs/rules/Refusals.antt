@@ -1,4 +1,4 @@
--- The refusals of an event, in their order: document 01, "Operations", and document 02, No. 1 to No. 3. Assumes nothing.
+-- The refusals of an event and of a question, in their order: document 01, "Operations", and document 02, No. 1 to No. 4. Assumes nothing.
 use Prim.Native.Nat.{ℕ}
 use mathlib.Core.Bool.{Bool, true, false, _||_}
 use mathlib.Core.Option.{Option, none, some}
@@ -53,16 +53,16 @@ refusalOfOtherCodes e =
 unfoldable pub refusalOfCodes : Entry → Option ℕ
 refusalOfCodes e = refusalOfMark (e .mark) (refusalOfOtherCodes e)
 
--- No. 4: "price, shares and mark are refused as in an entry"
-unfoldable pub refusalOfAsked : ℕ → ℕ → ℕ → ℕ → Option ℕ
-refusalOfAsked step mark price shares = firstOf (refusalOfTerms step price shares) (refusalOfMark mark none)
-
 -- its place: "6 id not above the last accepted id (0 never is); 7 if 256 orders rest"
 unfoldable pub refusalOfPlace : Venue → ℕ → Option ℕ
 refusalOfPlace v id =
     refuseUnless (ltb (v .lastId) id) 6
     (refuseUnless (ltb (length (v .orders)) mostOrders) 7
     none)
+
+-- No. 4: "price, shares and mark are refused as in an entry"
+unfoldable pub refusalOfAsked : ℕ → ℕ → ℕ → ℕ → Option ℕ
+refusalOfAsked step mark price shares = firstOf (refusalOfTerms step price shares) (refusalOfMark mark none)
 
 -- an order was found
 unfoldable pub rests : Option Order → Bool

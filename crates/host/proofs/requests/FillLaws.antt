@@ -1,7 +1,7 @@
 -- No. 4 for hosts: the number of venue_would_fill says what was told, and is the truth about the calls of venue_apply. Assumes nothing.
 use Prim.Native.Nat.{ℕ, _+_, _*_, _%_, _≤_, _<_}
 use native.Mathlib.Omega.{arith}
-use mathlib.Core.Path.{_≡_, ap, ap₂, _∙_, subst}
+use mathlib.Core.Path.{_≡_, sym, ap, ap₂, _∙_, subst}
 use mathlib.Core.Bool.{Bool, true, false}
 use mathlib.Core.List.{List}
 use lib.Dec.{leb}
@@ -16,30 +16,34 @@ use Rattle.engine.specs.claims.Calls.{Applied}
 use Rattle.engine.specs.claims.Fill.{FillFits}
 use Rattle.engine.proofs.bytes.RecordLaws.{record-unique}
 use Rattle.engine.proofs.refinement.QuestionLaws.{fills-fit}
-use Rattle.engine.proofs.requests.FillLaws.{true-of-call, refused-in-call}
+use Rattle.engine.proofs.requests.FillLaws.{in-words-shortest, true-of-call, refused-in-call}
 use Rattle.host.specs.rules.Host.{hostAnswer, outcomeOf}
 use Rattle.host.specs.rules.Fill.{frontNumber, fillCount, fillRead}
 use Rattle.host.specs.claims.Calls.{EventApplied}
-use Rattle.host.specs.claims.HostFill.{FillNumbersRead, AskedBefore, TellsHostsTheTruth, RefusedAsEntriesForHosts}
+use Rattle.host.specs.claims.HostFill.{FillNumbersRead, ReadsShortestForHosts, AskedBefore, TellsHostsTheTruth, RefusedAsEntriesForHosts}
 
 -- the number
 
-told-read : (n : ℕ) {full : Bool} {read : ℕ} → n < 65_536 → leb 32_768 n ≡ full → n % 32_768 ≡ read → fillRead n ≡ gives (record { full = full; read = read })
+told-read : (n : ℕ) {fills : Bool} {read : ℕ} → n < 65_536 → leb 32_768 n ≡ fills → n % 32_768 ≡ read → fillRead n ≡ gives (record { fills = fills; read = read })
 unfolding fillRead pick
-told-read n l f r = rw (lt-ltb n 65_536 l) (ap₂ (λ (b : Bool) (k : ℕ). gives (record { full = b; read = k })) f r)
+told-read n l f r = rw (lt-ltb n 65_536 l) (ap₂ (λ (b : Bool) (k : ℕ). gives (record { fills = b; read = k })) f r)
 
-front-read : (full : Bool) (read : ℕ) → read ≤ 256 → fillRead (frontNumber (record { full = full; read = read })) ≡ gives (record { full = full; read = read })
+front-read : (fills : Bool) (read : ℕ) → read ≤ 256 → fillRead (frontNumber (record { fills = fills; read = read })) ≡ gives (record { fills = fills; read = read })
 unfolding frontNumber pick
 front-read true read l = told-read (32_768 + read) (omega arith) (le-leb 32_768 (32_768 + read) (omega arith)) (omega arith)
 front-read false read l = told-read read (omega arith) (lt-leb 32_768 read (omega arith)) (omega arith)
 
 number-read : (o : Outcome FrontRead) → FillFits o → fillRead (hostAnswer (fillCount o)) ≡ o
 unfolding fillRead pick
-number-read (gives r) f = front-read (r .full) (r .read) f
+number-read (gives r) f = front-read (r .fills) (r .read) f
 number-read (refuses n) f = rw (le-ltb (n * 65_536) 65_536 (omega arith)) (ap refuses (omega arith))
 
 pub fill-numbers-read : FillNumbersRead
 fill-numbers-read w mark price shares = number-read (wouldFillIn w mark price shares) (fills-fit w mark price shares)
+
+pub reads-shortest-for-hosts : ReadsShortestForHosts
+reads-shortest-for-hosts w mark price shares asked h r e =
+    in-words-shortest w mark price shares r (sym (fill-numbers-read w mark price shares) ∙ ap fillRead (sym h) ∙ e)
 
 -- the call behind it
 

@@ -6,14 +6,16 @@ use lib.ListN.{length}
 use Rattle.numbers.specs.Tests.{All}
 use Rattle.numbers.specs.Answers.{gives}
 use Rattle.numbers.specs.SevenBit.{IsByte}
+use Rattle.book.specs.declared.FrontRead.{FrontRead}
+use Rattle.book.specs.rules.Words.{resting}
 use Rattle.engine.specs.declared.Entry.{Entry}
 use Rattle.engine.specs.declared.Event.the-variants.{Entry as entry}
 use Rattle.engine.specs.rules.Sound.{mostEvents}
 use Rattle.engine.specs.rules.Refusals.{leastBuffer}
 use Rattle.engine.specs.rules.Records.{recordAt}
 use Rattle.engine.specs.rules.Layout.{venueOf}
-use Rattle.engine.specs.rules.Fill.{wouldFillIn}
-use Rattle.engine.specs.claims.Fill.{refusalGiven, ofVenueOrTerms, TrueOfBytes}
+use Rattle.engine.specs.rules.Fill.{askedOrder, wouldFillIn}
+use Rattle.engine.specs.claims.Fill.{ReadShortest, refusalGiven, ofVenueTermsOrMark, TrueOfBytes}
 use Rattle.host.specs.rules.Host.{outcomeOf}
 use Rattle.host.specs.rules.Fill.{fillNumber, fillRead}
 use Rattle.host.specs.claims.Calls.{HostApplied}
@@ -21,6 +23,12 @@ use Rattle.host.specs.claims.Calls.{HostApplied}
 -- the number says just what was told
 abbrev pub FillNumbersRead : Type 0
 FillNumbersRead = (w : List ℕ) (mark price shares : ℕ) → fillRead (fillNumber w mark price shares) ≡ wouldFillIn w mark price shares
+
+-- "the count of orders read, equal to the shortest front of the book that suffices, or the whole book"
+abbrev pub ReadsShortestForHosts : Type 0
+ReadsShortestForHosts =
+    (w : List ℕ) (mark price shares asked : ℕ) → asked ≡ fillNumber w mark price shares →
+    (r : FrontRead) → fillRead asked ≡ gives r → ReadShortest (askedOrder (venueOf w .market) mark price shares) (resting w) r
 
 -- a call of venue_apply whose bytes read as the entry e, and the number asked that venue_would_fill answers of the same words for the mark, price and
 -- shares of e
@@ -41,4 +49,4 @@ abbrev pub RefusedAsEntriesForHosts : Type 0
 RefusedAsEntriesForHosts =
     (w bytes b : List ℕ) (answer : ℕ) (w′ b′ : List ℕ) (e : Entry) (end asked : ℕ) → AskedBefore w bytes b answer w′ b′ e end asked →
     leastBuffer ≤ length b → venueOf w .acceptedEvents < mostEvents →
-    refusalGiven (fillRead asked) ≡ ofVenueOrTerms (refusalGiven (outcomeOf answer))
+    refusalGiven (fillRead asked) ≡ ofVenueTermsOrMark (refusalGiven (outcomeOf answer))

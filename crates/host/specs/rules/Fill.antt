@@ -10,7 +10,7 @@ use Rattle.host.specs.rules.Host.{hostAnswer}
 
 -- the orders read, at most 256, and 32,768 more for a yes
 unfoldable pub frontNumber : FrontRead → ℕ
-frontNumber r = pick (r .full) (32_768 + r.read) (r .read)
+frontNumber r = pick (r .fills) (32_768 + r.read) (r .read)
 
 abbrev pub fillCount : Outcome FrontRead → Outcome ℕ
 fillCount (gives r) = gives (frontNumber r)
@@ -23,4 +23,4 @@ fillNumber w mark price shares = hostAnswer (fillCount (wouldFillIn w mark price
 -- how a host reads it: below 65,536 a yes or no and the orders read, any other number is a refusal
 unfoldable pub fillRead : ℕ → Outcome FrontRead
 fillRead answer =
-    pick (ltb answer 65_536) (gives (record { full = leb 32_768 answer; read = answer % 32_768 })) (refuses (answer / 65_536))
+    pick (ltb answer 65_536) (gives (record { fills = leb 32_768 answer; read = answer % 32_768 })) (refuses (answer / 65_536))

@@ -1,5 +1,6 @@
 -- A refused question gives its refusal; any other reads the front of the book for the order that is asked about. Assumes nothing.
-use Prim.Native.Nat.{_<_}
+use Prim.Native.Nat.{ℕ}
+use native.Mathlib.Omega.{arith}
 use mathlib.Core.Path.{_≡_, sym, ap, _∙_, subst}
 use mathlib.Core.Option.{none}
 use lib.Dec.{T}
@@ -7,8 +8,11 @@ use Rattle.numbers.proofs.TestLaws.{not-yes, not-no}
 use Rattle.book.specs.declared.Order.{Order}
 use Rattle.book.specs.rules.Fill.{frontRead}
 use Rattle.book.specs.rules.Words.{resting}
+use Rattle.engine.specs.declared.Market.{Market}
+use Rattle.engine.specs.rules.Working.{orderOf}
 use Rattle.engine.specs.rules.Refusals.{refusalOfAsked}
 use Rattle.engine.specs.rules.Layout.{venueOf, soundWords}
+use Rattle.engine.specs.rules.Fill.{askedOrder}
 use Rattle.engine.specs.rules.Answers.{refusedWith}
 use Rattle.engine.proofs.refinement.RefuseLaws.{words-ordered, words-stepped}
 use Rattle.engine.proofs.refinement.QuestionLaws.{question-broken, asked-shares, question-refused, question-told}
@@ -38,6 +42,10 @@ from-refusals c = c .before .before .before
 allowed : (c : tie.After-enum-told) → let a = start (from-refusals c) .args in refusalOfAsked (venueOf (a .words .now) .market .step) (a .mark) (a .price) (a .shares) ≡ none
 allowed c = sym (c .before .before .asked-refusal .ensures) ∙ ap refusedWith (c .enum-told .given .1)
 
+asked-has : (m : Market) (mark price shares : ℕ) {o : Order} → o ≡ askedOrder m mark price shares → o.shares ≡ shares
+unfolding askedOrder orderOf
+asked-has m mark price shares e = ap (λ (x : Order). x .shares) e
+
 asked-refusal-requires : tie.Need-asked-refusal-requires
 asked-refusal-requires c κs = words-stepped _ (sound c)
 
@@ -53,7 +61,7 @@ asked-order-requires c κs = sound (from-refusals c)
 read-front-requires : tie.Need-read-front-requires
 read-front-requires c κs =
     let e = c .before in
-    (words-ordered _ (sound (from-refusals e)) .book, subst (λ (o : Order). 0 < o.shares) (sym (c .asked-order .ensures)) (asked-shares _ _ _ _ (allowed e)))
+    (words-ordered _ (sound (from-refusals e)) .book, omega (arith, asked-has _ _ _ _ (c .asked-order .ensures), asked-shares _ _ _ _ (allowed e)))
 
 returns-2 : tie.Need-returns-2
 returns-2 c =
