@@ -7,7 +7,7 @@ use mathlib.Core.Option.{Option, none, some}
 use mathlib.Core.List.{List}
 use lib.Dec.{T, leb, leb→le}
 use Rattle.numbers.specs.Answers.{Outcome, gives, refuses}
-use Rattle.numbers.proofs.TestLaws.{by-test, pick-yes, T-true, T-false, and-yes}
+use Rattle.numbers.proofs.TestLaws.{by-test, pick-yes, T-true, and-yes}
 use Rattle.prices.specs.Prices.{legal}
 use Rattle.book.specs.declared.FrontRead.{FrontRead}
 use Rattle.book.specs.rules.Fill.{frontRead}

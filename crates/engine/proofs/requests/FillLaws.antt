@@ -39,7 +39,7 @@ use Rattle.engine.specs.rules.Run.{Step, stepUnless, step}
 use Rattle.engine.specs.rules.Records.{reportsBytes}
 use Rattle.engine.specs.rules.Answers.{countOf, bufferAfter}
 use Rattle.engine.specs.rules.Layout.{venueOf, stepIn}
-use Rattle.engine.specs.rules.Fill.{askedOrder, fillUnless, wouldFill, wouldFillIn, outcomeOfFill}
+use Rattle.engine.specs.rules.Fill.{askedOrder, fillUnless, wouldFill, wouldFillIn}
 use Rattle.engine.specs.claims.RoundTrips.{Word}
 use Rattle.engine.specs.claims.Calls.{Applied}
 use Rattle.engine.specs.claims.Fill.{ReadShortest, ReadsShortest, ReadsShortestInCalls, refusalGiven, ofVenueTermsOrMark, RefusedByKind, RefusedAsEntries, RefusedAsEntriesInCalls, executedBy, executedFor, TrueOf, TrueOfTheEffect, TellsTheTruth, TrueOfBytes, TellsTheTruthOfCalls}

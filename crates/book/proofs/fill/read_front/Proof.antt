@@ -1,9 +1,11 @@
 -- The loop of `read_front`: what is still to be read gives what was to be read at the start. Assumes nothing.
-use Prim.Native.Nat.{_+_, _-_, _≤_, _<_}
+use Prim.Native.Nat.{_-_, _≤_, _<_}
 use native.Mathlib.Omega.{arith}
 use mathlib.Core.Path.{_≡_, sym, _∙_}
+use mathlib.Core.List.{List}
 use lib.ListN.{length, drop}
 use borrow.Author.Needs.{needs}
+use Rattle.book.specs.declared.Order.{Order}
 use Rattle.book.specs.rules.Words.{resting}
 use Rattle.book.specs.rules.Fill.{frontRead}
 use Rattle.book.proofs.refinement.FrontLaws.{readOn, read-start, read-enough, read-short, read-none}
@@ -28,13 +30,19 @@ shares-reached-requires c κs = search needs
 add-i : tie.Need-add-i Inv-loop μ-loop
 add-i c = search needs
 
+-- the turn in which an order was read
+
+abbrev orders : tie.After-shares-reached Inv-loop μ-loop → List Order
+orders c = resting (c .before .before .before .before .before .args .w .now)
+
+in-book : (c : tie.After-shares-reached Inv-loop μ-loop) → c .before .before .loop .i < length (orders c)
+in-book c = omega (arith, c .before .loop-test .taken, c .before .before .before .count .ensures)
+
 returns : tie.Need-returns Inv-loop μ-loop
 returns c =
-    let a = c .before .before .before .before .before .before .args in
-    let l = c .before .before .before .loop in
-    let s = c .before .shares-reached in
-    let h : l .i < length (resting (a .w .now)) = omega (arith, c .before .before .loop-test .taken, c .before .before .before .before .count .ensures) in
-    sym (read-enough (l .missing) (a .o) (resting (a .w .now)) (l .i) h (l .inv .1) (omega (arith, c .if1 .taken, s .ensures))) ∙ l .inv .0
+    let t = c .before in
+    let l = t .before .before .loop in
+    sym (read-enough (l .missing) _ (orders t) (l .i) (in-book t) (l .inv .1) (omega (arith, c .if1 .taken, t .shares-reached .ensures))) ∙ l .inv .0
 
 sub-missing : tie.Need-sub-missing Inv-loop μ-loop
 sub-missing c = search needs
@@ -44,11 +52,10 @@ loop-less c = search needs
 
 loop-again : tie.Need-loop-again Inv-loop μ-loop
 loop-again c =
-    let a = c .before .before .before .before .before .before .args in
-    let l = c .before .before .before .loop in
-    let s = c .before .shares-reached in
-    let h : l .i < length (resting (a .w .now)) = omega (arith, c .before .before .loop-test .taken, c .before .before .before .before .count .ensures) in
-    (rw (s .ensures) (sym (read-short (l .missing) (a .o) (resting (a .w .now)) (l .i) h (omega (arith, c .if1 .left, s .ensures))) ∙ l .inv .0), omega (arith, c .if1 .left), search needs)
+    let t = c .before in
+    let l = t .before .before .loop in
+    let s = t .shares-reached in
+    (rw (s .ensures) (sym (read-short (l .missing) _ (orders t) (l .i) (in-book t) (omega (arith, c .if1 .left, s .ensures))) ∙ l .inv .0), omega (arith, c .if1 .left), search needs)
 
 returns-2 : tie.Need-returns-2 Inv-loop μ-loop
 returns-2 c =
