@@ -1,4 +1,5 @@
-/* A host program in C: checks event records, asks for permitted prices at both steps, watches a close and applies single events by venue_apply.
+/* A host program in C: checks event records, asks for permitted prices at both steps, watches a close, applies single events by venue_apply and asks
+   whether entries would fill.
    Build and run, from the repository's root:
    rt staticlib host && cc -Wall -Wextra -Iinclude examples/host.c target/staticlib/libhost.a -o target/host && target/host */
 #include <inttypes.h>
@@ -27,6 +28,16 @@ static void apply(const char *what, uint32_t *words, const uint8_t *record, size
     static uint8_t reports[VENUE_REPORT_BYTES];
     uint32_t answer = venue_apply(words, VENUE_WORDS, record, length, reports, sizeof reports);
     printf("apply, %s: refusal %" PRIu32 ", count %" PRIu32 "\n", what, venue_refusal(answer), venue_count(answer));
+}
+
+static void ask(const uint32_t *words, uint32_t mark, uint32_t price, uint32_t shares)
+{
+    uint32_t answer = venue_would_fill(words, VENUE_WORDS, mark, price, shares);
+    printf("would it fill, %" PRIu32 " %" PRIu32 " %" PRIu32 ": ", mark, price, shares);
+    if (venue_refusal(answer) != 0)
+        printf("refusal %" PRIu32 "\n", venue_refusal(answer));
+    else
+        printf("%s, %" PRIu32 " read\n", venue_fills(answer) ? "yes" : "no", venue_orders_read(answer));
 }
 
 int main(void)
@@ -70,5 +81,10 @@ int main(void)
     apply("entry", words, entry, sizeof entry);
     apply("entry again", words, entry, sizeof entry);
     apply("buy with a slide", words, buy_with_slide, sizeof buy_with_slide);
+    ask(words, 0, 90500, 500);
+    ask(words, 0, 90400, 500);
+    ask(words, 0, 0, 501);
+    ask(words, 9, 90550, 0);
+    ask(words, 9, 0, 1);
     return 0;
 }

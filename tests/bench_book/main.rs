@@ -14,6 +14,7 @@ extern "C" {
     fn bench_sound(w: *const u32, n: usize, step: u32, last_id: u32, last_stamp: u32) -> bool;
     fn bench_find(w: *const u32, n: usize, id: u32) -> usize;
     fn bench_best(w: *const u32, n: usize, mark: u32, price: u32) -> usize;
+    fn bench_front(w: *const u32, n: usize, mark: u32, price: u32, shares: u32) -> usize;
     fn bench_insert(w: *mut u32, n: usize, id: u32, mark: u32, price: u32, stamp: u32);
     fn bench_remove(w: *mut u32, n: usize, i: usize);
 }
@@ -31,6 +32,10 @@ impl Words {
 
     fn best(&self, mark: u32, price: u32) -> usize {
         unsafe { bench_best(self.0.as_ptr(), self.0.len(), mark, price) }
+    }
+
+    fn front(&self, mark: u32, price: u32, shares: u32) -> usize {
+        unsafe { bench_front(self.0.as_ptr(), self.0.len(), mark, price, shares) }
     }
 
     fn insert(&mut self, id: u32, mark: u32, price: u32, stamp: u32) {
@@ -58,6 +63,17 @@ struct Order {
     used: bool,
     clear: bool,
     market: bool,
+}
+
+impl Order {
+    // Whether a working order of a mark and a price reaches it.
+    fn is_reached(&self, mark: u32, price: u32) -> bool {
+        if mark == 0 {
+            self.mark != 0 && self.price <= price
+        } else {
+            self.mark == 0 && self.price >= price
+        }
+    }
 }
 
 struct Plain(Vec<Order>);
@@ -114,8 +130,7 @@ impl Plain {
     fn best(&self, mark: u32, price: u32) -> usize {
         let mut best: Option<(usize, &Order)> = None;
         for (i, o) in self.0.iter().enumerate() {
-            let reached = if mark == 0 { o.mark != 0 && o.price <= price } else { o.mark == 0 && o.price >= price };
-            if !reached {
+            if !o.is_reached(mark, price) {
                 continue;
             }
             let better = best.map_or(true, |(_, x)| {
@@ -127,6 +142,21 @@ impl Plain {
             }
         }
         best.map_or(1000, |(i, _)| i)
+    }
+
+    // The orders read until the shares are found, and 1000 more where they are.
+    #[inline(never)]
+    fn front(&self, mark: u32, price: u32, shares: u32) -> usize {
+        let mut found = 0u64;
+        for (i, o) in self.0.iter().enumerate() {
+            if o.is_reached(mark, price) {
+                found += o.shares as u64;
+            }
+            if found >= shares as u64 {
+                return i + 1001;
+            }
+        }
+        self.0.len()
     }
 
     #[inline(never)]
@@ -200,12 +230,18 @@ fn main() {
         for mark in 0..4 {
             for price in 8400..9700 {
                 assert_eq!(words.best(mark, price), plain.best(mark, price));
+                for shares in [1, 100, 101, 250, 100 * k] {
+                    assert_eq!(words.front(mark, price, shares), plain.front(mark, price, shares));
+                }
             }
         }
         print!("{k:4} orders:");
         let step = |i: u32| i.wrapping_mul(7919) % (3 * k);
         show("find", time(|i| { black_box(words.find(step(i))); }), time(|i| { black_box(plain.find(step(i))); }));
         show("best", time(|_| { black_box(words.best(0, black_box(9700))); }), time(|_| { black_box(plain.best(0, black_box(9700))); }));
+        let all = black_box(1_000_000);
+        show("front, a yes by the first sell", time(|_| { black_box(words.front(0, black_box(9700), 100)); }), time(|_| { black_box(plain.front(0, black_box(9700), 100)); }));
+        show("front, a no", time(|_| { black_box(words.front(0, black_box(9700), all)); }), time(|_| { black_box(plain.front(0, black_box(9700), all)); }));
         let walk = time(|_| { black_box(words.sound(black_box(LAST), LAST)); });
         show("record walk, beside a sort", walk, time(|_| { black_box(plain.sound(black_box(LAST), LAST, true)); }));
         show("beside a hash set", walk, time(|_| { black_box(plain.sound(black_box(LAST), LAST, false)); }));

@@ -27,10 +27,11 @@ use Rattle.engine.specs.claims.RoundTrips.{Word, ReportWords}
 use Rattle.engine.specs.rules.Layout.{venueOf, soundWords, stepIn}
 use Rattle.engine.specs.rules.Answers.{countOf, bufferAfter}
 use Rattle.engine.specs.claims.Calls.{Applied, AppliedCall, Chain, none, more, LawfulCalls, withReports, readOf, answeredOf, Demand3OfCalls, NoCallGets16, bytesGot, reportsGot, LongEnough, SameForBoth, EqualReports}
-use Rattle.engine.proofs.refinement.RefuseLaws.{words-book, words-sound}
+use Rattle.engine.proofs.refinement.RefuseLaws.{words-book, words-sound, sound-words}
 use Rattle.engine.proofs.refinement.RefusalLaws.{NotRefused, Unless, refusal-known}
 use Rattle.engine.proofs.refinement.OpeningLaws.{opening-gives, opened-book, opened-venue, step-in}
-use Rattle.engine.proofs.demand3.ReachedLaws.{reached-is-sound, sound-refused}
+use Rattle.engine.proofs.demand3.SoundLaws.{venue-sound}
+use Rattle.engine.proofs.demand3.ReachedLaws.{reached-sound, reached-is-sound, sound-refused}
 use Rattle.engine.proofs.bytes.ReportWordLaws.{reports-words}
 use Rattle.engine.proofs.bytes.BoundLaws.{reports-room}
 use Rattle.engine.proofs.bytes.RecordLaws.{all-reports-read-back}
@@ -120,6 +121,11 @@ module _ (s close : ℕ) (i : T (isStep s)) (t : T (legal s close)) {w₀ : List
   fresh-run : {cs : List AppliedCall} {w : List ℕ} → Chain w₀ cs w → IsRun cs w (run (opened s close) (map callOf cs))
   unfolding opened
   fresh-run {cs} {w} c = subst (λ (v : Venue). IsRun cs w (run v (map callOf cs))) f (chain-run u (rw f (omega arith)) c)
+
+  pub reached-words : {cs : List AppliedCall} {w : List ℕ} → Chain w₀ cs w → T (soundWords w)
+  reached-words {cs} {w} c =
+      let r = fresh-run c in
+      sound-words w (r .layout) (rw (r .venue) (venue-sound _ (reached-sound s close (opened s close) (opening-gives s close i t) (map callOf cs))))
 
   pub demand3-from : (cs : List AppliedCall) (w′ : List ℕ) → Chain w₀ cs w′ → LawfulCalls s close cs w′
   unfolding venueOf

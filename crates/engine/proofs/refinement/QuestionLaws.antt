@@ -15,6 +15,7 @@ use Rattle.book.specs.rules.Words.{resting, isBook}
 use Rattle.book.proofs.definitions.FillLaws.{front-bound}
 use Rattle.book.proofs.refinement.WordLaws.{isBook-book}
 use Rattle.engine.specs.rules.Working.{isMarket}
+use Rattle.engine.specs.rules.Venue.{Venue}
 use Rattle.engine.specs.rules.Sound.{sound}
 use Rattle.engine.specs.rules.Refusals.{refuseUnless, firstOf, refusalOfTerms, refusalOfAsked}
 use Rattle.engine.specs.rules.Layout.{venueOf, soundWords}
@@ -22,26 +23,33 @@ use Rattle.engine.specs.rules.Fill.{askedOrder, fillUnless, wouldFill, w
 use Rattle.engine.specs.claims.Fill.{FillFits, FillsFit}
 use Rattle.engine.proofs.refinement.RefuseLaws.{refuse-yes, refuse-no, unrefused, first-nothing, words-book, words-sound}
 
--- every refusal of the question has a number of at least 1
+-- what holds of 3, 4 and 18 holds of every refusal but 16
 
-abbrev Positive : Option ℕ → Type 0
-Positive none = Unit {0}
-Positive (some n) = 1 ≤ n
+abbrev Given : (ℕ → Type 0) → Option ℕ → Type 0
+Given P none = Unit {0}
+Given P (some n) = P n
 
-refuse-positive : (b : Bool) (n : ℕ) (later : Option ℕ) → 1 ≤ n → Positive later → Positive (refuseUnless b n later)
-unfolding refuseUnless
-refuse-positive true n later l h = h
-refuse-positive false n later l h = l
+module _ (P : ℕ → Type 0) where
+  refuse-given-as : (b : Bool) (n : ℕ) (later : Option ℕ) → P n → Given P later → Given P (refuseUnless b n later)
+  unfolding refuseUnless
+  refuse-given-as true n later p h = h
+  refuse-given-as false n later p h = p
 
-first-positive : (r later : Option ℕ) → Positive r → Positive later → Positive (firstOf r later)
-unfolding firstOf
-first-positive none later r h = h
-first-positive (some n) later r h = r
+  first-given-as : (r later : Option ℕ) → Given P r → Given P later → Given P (firstOf r later)
+  unfolding firstOf
+  first-given-as none later r h = h
+  first-given-as (some n) later r h = r
 
-asked-positive : (s mark price shares : ℕ) → Positive (refusalOfAsked s mark price shares)
-unfolding refusalOfAsked refusalOfTerms
-asked-positive s mark price shares =
-    first-positive _ _ (refuse-positive _ 3 _ (omega arith) (refuse-positive _ 4 _ (omega arith) (refuse-positive _ 4 none (omega arith) tt))) (refuse-positive _ 18 none (omega arith) tt)
+  asked-given-as : P 3 → P 4 → P 18 → (s mark price shares : ℕ) → Given P (refusalOfAsked s mark price shares)
+  unfolding refusalOfAsked refusalOfTerms
+  asked-given-as p q r s mark price shares =
+      first-given-as _ _ (refuse-given-as _ 3 _ p (refuse-given-as _ 4 _ q (refuse-given-as _ 4 none q tt))) (refuse-given-as _ 18 none r tt)
+
+asked-positive : (s mark price shares : ℕ) → Given (λ n. 1 ≤ n) (refusalOfAsked s mark price shares)
+asked-positive = asked-given-as (λ n. 1 ≤ n) (omega arith) (omega arith) (omega arith)
+
+asked-not-16 : (s mark price shares : ℕ) → Given (λ n. n ≡ 16 → ⊥) (refusalOfAsked s mark price shares)
+asked-not-16 = asked-given-as (λ n. n ≡ 16 → ⊥) (λ e. omega arith) (λ e. omega arith) (λ e. omega arith)
 
 -- where none is given there are shares to fill
 pub asked-shares : (s mark price shares : ℕ) → refusalOfAsked s mark price shares ≡ none → 1 ≤ shares
@@ -56,12 +64,23 @@ fills-fit w mark price shares =
     by-test
     FillFits
     (isBook w)
-    (λ t. go t (refuseUnless (sound (venueOf w)) 16 (refusalOfAsked (venueOf w .market .step) mark price shares)) (refuse-positive _ 16 _ (omega arith) (asked-positive _ mark price shares)))
+    (λ t. go t (refuseUnless (sound (venueOf w)) 16 (refusalOfAsked (venueOf w .market .step) mark price shares)) (refuse-given-as (λ n. 1 ≤ n) _ 16 _ (omega arith) (asked-positive _ mark price shares)))
     (λ t. omega arith)
   where
-    go : T (isBook w) → (x : Option ℕ) → Positive x → FillFits (fillUnless x (venueOf w) mark price shares)
+    go : T (isBook w) → (x : Option ℕ) → Given (λ n. 1 ≤ n) x → FillFits (fillUnless x (venueOf w) mark price shares)
     go t none p = omega (arith, front-bound (askedOrder (venueOf w .market) mark price shares) (resting w), isBook-book w t .few)
     go t (some n) p = p
+
+-- a sound venue isn't refused with 16
+unless-not-16 : (x : Option ℕ) → Given (λ n. n ≡ 16 → ⊥) x → (v : Venue) (mark price shares : ℕ) → fillUnless x v mark price shares ≡ refuses 16 → ⊥
+unfolding fillUnless
+unless-not-16 none h v mark price shares e = let z : _≡_ {A = ℕ} 0 1 = cc in absurd (omega arith)
+unless-not-16 (some n) h v mark price shares e = let z : n ≡ 16 = cc in h z
+
+pub sound-not-16 : (v : Venue) → T (sound v) → (mark price shares : ℕ) → wouldFill v mark price shares ≡ refuses 16 → ⊥
+unfolding wouldFill
+sound-not-16 v s mark price shares e =
+    unless-not-16 _ (asked-not-16 (v.market.step) mark price shares) v mark price shares (ap (λ (x : Option ℕ). fillUnless x v mark price shares) (sym (refuse-yes (sound v) 16 _ (T-true (sound v) s))) ∙ e)
 
 -- by the words
 
@@ -85,6 +104,9 @@ module _ (w : List ℕ) (mark price shares : ℕ) where
     unfolding wouldFillIn wouldFill
     question-sound =
         pick-yes (isBook w) _ _ (words-book w s) ∙ ap (λ (x : Option ℕ). fillUnless x (venueOf w) mark price shares) (refuse-yes (sound (venueOf w)) 16 refused (T-true _ (words-sound w s)))
+
+    pub words-not-16 : wouldFillIn w mark price shares ≡ refuses 16 → ⊥
+    words-not-16 e = unless-not-16 _ (asked-not-16 _ mark price shares) (venueOf w) mark price shares (sym question-sound ∙ e)
 
     pub question-refused : {k : ℕ} → refused ≡ some k → refuses k ≡ wouldFillIn w mark price shares
     unfolding fillUnless

@@ -42,13 +42,14 @@ use Rattle.engine.specs.rules.Layout.{venueOf, stepIn}
 use Rattle.engine.specs.rules.Fill.{askedOrder, fillUnless, wouldFill, wouldFillIn}
 use Rattle.engine.specs.claims.RoundTrips.{Word}
 use Rattle.engine.specs.claims.Calls.{Applied}
-use Rattle.engine.specs.claims.Fill.{ReadShortest, ReadsShortest, ReadsShortestInCalls, refusalGiven, ofVenueTermsOrMark, RefusedByKind, RefusedAsEntries, RefusedAsEntriesInCalls, executedBy, executedFor, TrueOf, TrueOfTheEffect, TellsTheTruth, TrueOfBytes, TellsTheTruthOfCalls}
+use Rattle.engine.specs.claims.Fill.{ReadShortest, ReadsShortest, ReadsShortestInCalls, refusalGiven, ofVenueTermsOrMark, RefusedByKind, RefusedAsEntries, RefusedAsEntriesInCalls, NoQuestionGets16, NoQuestionOfCallsGets16, executedBy, executedFor, TrueOf, TrueOfTheEffect, TellsTheTruth, TrueOfBytes, TellsTheTruthOfCalls}
 use Rattle.engine.proofs.refinement.RefuseLaws.{refuse-yes, unrefused}
 use Rattle.engine.proofs.refinement.RefusalLaws.{NotRefused, Unless, refusal-known}
-use Rattle.engine.proofs.refinement.OpeningLaws.{step-in}
-use Rattle.engine.proofs.refinement.QuestionLaws.{asked-shares}
-use Rattle.engine.proofs.demand3.SoundLaws.{sound-venue, book-distinct, book-others}
-use Rattle.engine.proofs.demand3.CallLaws.{Readable, step-readable, bytes-read}
+use Rattle.engine.proofs.refinement.OpeningLaws.{opened-book, opened-venue, step-in}
+use Rattle.engine.proofs.refinement.QuestionLaws.{asked-shares, sound-not-16, words-not-16}
+use Rattle.engine.proofs.demand3.SoundLaws.{sound-venue, venue-sound, book-distinct, book-others}
+use Rattle.engine.proofs.demand3.ReachedLaws.{reached-sound}
+use Rattle.engine.proofs.demand3.CallLaws.{Readable, step-readable, bytes-read, reached-words}
 
 -- The answer by the book
 
@@ -146,6 +147,9 @@ pub refused-as-entries : RefusedAsEntries
 unfolding wouldFill step
 refused-as-entries v e n b a =
     fill-given _ v (e .mark) (e .price) (e .shares) ∙ sym (refusal-asked v e n b a) ∙ ap ofVenueTermsOrMark (sym (step-given (refusal v (entry e) n) v e))
+
+pub no-question-gets-16 : NoQuestionGets16
+no-question-gets-16 s close v o cs = sound-not-16 _ (venue-sound _ (reached-sound s close v o cs))
 
 -- The truth about entries
 
@@ -326,3 +330,7 @@ refused-in-call w e {b} a l n q =
 
 pub refused-as-entries-in-calls : RefusedAsEntriesInCalls
 refused-as-entries-in-calls w e b answer w′ b′ a l n told q = refused-in-call w e a l n q
+
+pub no-question-of-calls-gets-16 : NoQuestionOfCallsGets16
+no-question-of-calls-gets-16 s close i t cs w c mark price shares told q z =
+    words-not-16 w mark price shares (reached-words s close i t (opened-book s close i t) (opened-venue s close i t) c) (sym q ∙ z)

@@ -8,6 +8,7 @@ use lib.Dec.{T, leb, eqb}
 use lib.ListN.{length, take}
 use Rattle.numbers.specs.Tests.{pick}
 use Rattle.numbers.specs.Answers.{Outcome, gives, refuses}
+use Rattle.prices.specs.Prices.{isStep, legal}
 use Rattle.book.specs.declared.Order.{Order}
 use Rattle.book.specs.declared.FrontRead.{FrontRead}
 use Rattle.book.specs.rules.Orders.{ifSame}
@@ -17,15 +18,15 @@ use Rattle.engine.specs.declared.Entry.{Entry}
 use Rattle.engine.specs.declared.Event.the-variants.{Entry as entry}
 use Rattle.engine.specs.declared.FillAnswer.{FillAnswer}
 use Rattle.engine.specs.rules.Reports.{Report, accepted, executed, cancelled, repriced, restrictionStarts, dayEnded}
-use Rattle.engine.specs.rules.Venue.{Venue, effectOfEntry}
+use Rattle.engine.specs.rules.Venue.{Venue, opening, effectOfEntry}
 use Rattle.engine.specs.rules.Sound.{mostOrders, mostEvents, sound}
 use Rattle.engine.specs.rules.Refusals.{refuseUnless, refusalOfKind, leastBuffer}
-use Rattle.engine.specs.rules.Run.{step}
+use Rattle.engine.specs.rules.Run.{Call, step, run}
 use Rattle.engine.specs.rules.Records.{reportsUpTo}
-use Rattle.engine.specs.rules.Layout.{venueOf}
+use Rattle.engine.specs.rules.Layout.{venueOf, openedWords}
 use Rattle.engine.specs.rules.Fill.{askedOrder, wouldFill, wouldFillIn, outcomeOfFill}
 use Rattle.engine.specs.claims.RoundTrips.{Word}
-use Rattle.engine.specs.claims.Calls.{Applied}
+use Rattle.engine.specs.claims.Calls.{Applied, AppliedCall, Chain}
 
 -- The answer by the book
 
@@ -90,6 +91,17 @@ RefusedAsEntriesInCalls =
     leastBuffer ≤ length b → venueOf w .acceptedEvents < mostEvents →
     (told : FillAnswer) → outcomeOfFill told ≡ wouldFillIn w (e .mark) (e .price) (e .shares) →
     refusalGiven (outcomeOfFill told) ≡ ofVenueTermsOrMark (refusalGiven answer)
+
+-- "No venue reached from open gets 16": of lists of events, and of chains of calls
+abbrev pub NoQuestionGets16 : Type 0
+NoQuestionGets16 =
+    (s close : ℕ) (v : Venue) → opening s close ≡ gives v → (cs : List Call) (mark price shares : ℕ) →
+    wouldFill ((run v cs) .venue) mark price shares ≡ refuses 16 → ⊥
+
+abbrev pub NoQuestionOfCallsGets16 : Type 0
+NoQuestionOfCallsGets16 =
+    (s close : ℕ) → T (isStep s) → T (legal s close) → (cs : List AppliedCall) (w : List ℕ) → Chain (openedWords s close) cs w →
+    (mark price shares : ℕ) (told : FillAnswer) → outcomeOfFill told ≡ wouldFillIn w mark price shares → outcomeOfFill told ≡ refuses 16 → ⊥
 
 -- The truth about entries
 

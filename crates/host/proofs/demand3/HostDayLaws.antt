@@ -249,14 +249,17 @@ equal-day-reports s close w v w₀ v₀ h k hs gs w′ v′ c d q l m =
 same-refusal : {A : Type 0} {m n : ℕ} → _≡_ {A = Outcome A} (refuses m) (refuses n) → m ≡ n
 same-refusal z = cc
 
-not-16 : {w w′ : List ℕ} {hs : List HostCall} → T (soundWords w) → HostChain w hs w′ → All (λ (h : HostCall). answerOf h ≡ hostAnswer (refuses 16) → ⊥) hs
-not-16 t noCalls = tt
-not-16 {w} t (applied {w₁ = w₁} {c = c} h a r) = let k = by-record (recordAt (c .bytes) 0) a in (k .0, not-16 (k .1) r)
+not-16 : {w w′ : List ℕ} {hs : List HostCall} → T (soundWords w) → HostChain w hs w′ → All (λ (h : HostCall). answerOf h ≡ hostAnswer (refuses 16) → ⊥) hs × T (soundWords w′)
+not-16 t noCalls = (tt, t)
+not-16 {w} t (applied {w₁ = w₁} {c = c} h a r) =
+    let k = by-record (recordAt (c .bytes) 0) a in
+    let later = not-16 (k .1) r in
+    ((k .0, later .0), later .1)
   where
     by-record : (x : Outcome (Read Event)) → RecordApplied x w (c .lent) (c .answer) w₁ (c .after) → (c .answer ≡ hostAnswer (refuses 16) → ⊥) × T (soundWords w₁)
     by-record (gives e) b = (λ z. applied-not-16 t (b .applied) (outcome-told (refuses 16) (omega arith) z), applied-sound t (b .applied))
     by-record (refuses n) b = (λ z. omega (arith, b .answers, b .range .1, z), rw (b .words) t)
-not-16 t (day p r) = (λ z. subst T (p .is .refused z) t, not-16 (p .is .done .sound t) r)
+not-16 t (day p r) = let later = not-16 (p .is .done .sound t) r in ((λ z. subst T (p .is .refused z) t, later .0), later .1)
 
 opened-words-sound : {w w₀ : List ℕ} {s close : ℕ} → HostOpened w s close 0 w₀ → T (soundWords w₀)
 unfolding run
@@ -264,8 +267,12 @@ opened-words-sound {w₀ = w₀} {s = s} {close = close} h =
     let f = opened-fresh h in
     sound-words w₀ (f .layout) (rw (f .venue) (venue-sound (opened s close) (reached-sound s close (opened s close) (opening-gives s close (f .is) (f .legal)) [])))
 
+-- the words after calls from venue_open are sound
+pub reached-words-sound : {w w₀ w′ : List ℕ} {s close : ℕ} {hs : List HostCall} → HostOpened w s close 0 w₀ → HostChain w₀ hs w′ → T (soundWords w′)
+reached-words-sound h c = not-16 (opened-words-sound h) c .1
+
 pub no-day-gets-16 : NoDayGets16
-no-day-gets-16 w s close w₀ h hs w′ c = (not-16 (opened-words-sound h) c, no-host-gets-16 w s close w₀ h (oneByOne hs) w′ (calls c))
+no-day-gets-16 w s close w₀ h hs w′ c = (not-16 (opened-words-sound h) c .0, no-host-gets-16 w s close w₀ h (oneByOne hs) w′ (calls c))
 
 -- a day in pieces
 

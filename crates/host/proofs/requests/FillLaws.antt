@@ -15,12 +15,13 @@ use Rattle.engine.specs.rules.Fill.{wouldFillIn}
 use Rattle.engine.specs.claims.Calls.{Applied}
 use Rattle.engine.specs.claims.Fill.{FillFits}
 use Rattle.engine.proofs.bytes.RecordLaws.{record-unique}
-use Rattle.engine.proofs.refinement.QuestionLaws.{fills-fit}
+use Rattle.engine.proofs.refinement.QuestionLaws.{fills-fit, words-not-16}
 use Rattle.engine.proofs.requests.FillLaws.{in-words-shortest, true-of-call, refused-in-call}
 use Rattle.host.specs.rules.Host.{hostAnswer, outcomeOf}
 use Rattle.host.specs.rules.Fill.{frontNumber, fillCount, fillRead}
 use Rattle.host.specs.claims.Calls.{EventApplied}
-use Rattle.host.specs.claims.HostFill.{FillNumbersRead, ReadsShortestForHosts, AskedBefore, TellsHostsTheTruth, RefusedAsEntriesForHosts}
+use Rattle.host.specs.claims.HostFill.{FillNumbersRead, NoHostQuestionGets16, ReadsShortestForHosts, AskedBefore, TellsHostsTheTruth, RefusedAsEntriesForHosts}
+use Rattle.host.proofs.demand3.HostDayLaws.{reached-words-sound}
 
 -- the number
 
@@ -44,6 +45,11 @@ fill-numbers-read w mark price shares = number-read (wouldFillIn w mark price sh
 pub reads-shortest-for-hosts : ReadsShortestForHosts
 reads-shortest-for-hosts w mark price shares asked h r e =
     in-words-shortest w mark price shares r (sym (fill-numbers-read w mark price shares) ∙ ap fillRead (sym h) ∙ e)
+
+pub no-host-question-gets-16 : NoHostQuestionGets16
+unfolding fillRead pick
+no-host-question-gets-16 w s close w₀ h hs w′ c mark price shares z =
+    words-not-16 w′ mark price shares (reached-words-sound h c) (sym (fill-numbers-read w′ mark price shares) ∙ ap fillRead z)
 
 -- the call behind it
 

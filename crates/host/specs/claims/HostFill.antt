@@ -4,7 +4,7 @@ use mathlib.Core.Path.{_≡_}
 use mathlib.Core.List.{List}
 use lib.ListN.{length}
 use Rattle.numbers.specs.Tests.{All}
-use Rattle.numbers.specs.Answers.{gives}
+use Rattle.numbers.specs.Answers.{gives, refuses}
 use Rattle.numbers.specs.SevenBit.{IsByte}
 use Rattle.book.specs.declared.FrontRead.{FrontRead}
 use Rattle.book.specs.rules.Words.{resting}
@@ -16,13 +16,20 @@ use Rattle.engine.specs.rules.Records.{recordAt}
 use Rattle.engine.specs.rules.Layout.{venueOf}
 use Rattle.engine.specs.rules.Fill.{askedOrder, wouldFillIn}
 use Rattle.engine.specs.claims.Fill.{ReadShortest, refusalGiven, ofVenueTermsOrMark, TrueOfBytes}
-use Rattle.host.specs.rules.Host.{outcomeOf}
+use Rattle.host.specs.rules.Host.{hostAnswer, outcomeOf}
 use Rattle.host.specs.rules.Fill.{fillNumber, fillRead}
-use Rattle.host.specs.claims.Calls.{HostApplied}
+use Rattle.host.specs.claims.Calls.{HostOpened, HostApplied}
+use Rattle.host.specs.claims.HostDays.{HostCall, HostChain}
 
 -- the number says just what was told
 abbrev pub FillNumbersRead : Type 0
 FillNumbersRead = (w : List ℕ) (mark price shares : ℕ) → fillRead (fillNumber w mark price shares) ≡ wouldFillIn w mark price shares
+
+-- "No venue reached from open gets 16": after any calls of venue_apply and venue_play from the words that venue_open leaves with the answer 0
+abbrev pub NoHostQuestionGets16 : Type 0
+NoHostQuestionGets16 =
+    (w : List ℕ) (s close : ℕ) (w₀ : List ℕ) → HostOpened w s close 0 w₀ → (hs : List HostCall) (w′ : List ℕ) → HostChain w₀ hs w′ →
+    (mark price shares : ℕ) → fillNumber w′ mark price shares ≡ hostAnswer (refuses 16) → ⊥
 
 -- "the count of orders read, equal to the shortest front of the book that suffices, or the whole book"
 abbrev pub ReadsShortestForHosts : Type 0
