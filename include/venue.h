@@ -33,8 +33,8 @@ extern "C" {
 #define VENUE_ORDERS 256
 
 /* venue_open, venue_apply, venue_copy_out and venue_watch answer refusal * 65,536 + count: of bytes or of records, 0 where there is nothing to
-   count. Refusal 0 is none; a refusal has the count 0. venue_play answers in the same way, with the reason why it stopped in place of a count, and
-   venue_would_fill with a yes or no and a count in it. */
+   count. Refusal 0 is none; a refusal has the count 0. venue_play answers in the same way, with the reason why it stopped in place of a count.
+   venue_would_fill answers the orders read, and VENUE_YES more for a yes: read it by venue_fills and venue_orders_read, not by venue_count. */
 static inline uint32_t venue_refusal(uint32_t answer)
 {
     return answer / 65536;
@@ -113,8 +113,8 @@ uint32_t venue_play(uint32_t *words, size_t words_length, const uint8_t *records
    and of a short while the restriction is on the larger of its limit and the permitted price of the bid. The price 0 means market, as in an entry.
    Show, life and slide don't matter. The orders are read in rising id, those of its own side and out of reach too, up to the one that completes the
    shares, or all of them; a book without orders is a no with 0 read.
-   The answer is the orders read, at most VENUE_ORDERS, and VENUE_YES more for a yes; or refusal * 65,536. The refusals are those of an entry, in its order,
-   and never 1, 2, 6 or 7: the buffer, the events accepted, the last id and a full book don't matter.
+   The answer is the orders read, at most VENUE_ORDERS, and VENUE_YES more for a yes; or refusal * 65,536. The refusals, in the order of an entry; a full book and
+   the events accepted don't matter:
    16  the words aren't a venue
     3  the price isn't legal at the venue's step; 0 means market
     4  shares not 1 to 1,000,000

@@ -19,7 +19,7 @@ fn defined<'a>(header: &'a str, name: &str) -> &'a str {
 fn main() {
     println!("cargo:rerun-if-changed={HEADER}");
     let header = fs::read_to_string(HEADER).expect("the header can be read");
-    for name in ["VENUE_WORDS", "VENUE_LAYOUT", "VENUE_CENT", "VENUE_HALF_CENT"] {
+    for name in ["VENUE_WORDS", "VENUE_LAYOUT", "VENUE_CENT", "VENUE_HALF_CENT", "VENUE_YES"] {
         println!("cargo:rustc-env={name}={}", defined(&header, name));
     }
     println!("cargo:rerun-if-changed=build.rs");

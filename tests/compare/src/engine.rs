@@ -185,7 +185,7 @@ pub fn answer_of(answer: Result<usize, Refusal>) -> u32 {
 }
 
 /// What is added to the count of orders read for a yes.
-const YES: u32 = 32_768;
+const YES: u32 = number(env!("VENUE_YES")) as u32;
 
 /// The engine's answer to a question that says the same as the model's.
 pub fn fill_answer_of(answer: Result<Fill, Refusal>) -> u32 {

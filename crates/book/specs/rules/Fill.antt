@@ -26,7 +26,7 @@ unfoldable pub leastBelow : ℕ → (ℕ → Bool) → ℕ
 leastBelow zero test = zero
 leastBelow (suc m) test = pick (test zero) zero (suc (leastBelow m (λ k. test (suc k))))
 
--- "the shortest front of the book that suffices, or the whole book": of how many orders it is
+-- "the shortest front of the book that suffices, or the whole book": how many orders it has
 unfoldable pub frontLength : ℕ → Order → List Order → ℕ
 frontLength n w os = leastBelow (length os) (λ k. suffices n w (take k os))
 

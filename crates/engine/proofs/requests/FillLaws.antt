@@ -2,7 +2,7 @@
 use Prim.Native.Nat.{ℕ, _+_, _-_, _≤_, _<_, min}
 use native.Mathlib.Omega.{arith}
 use mathlib.Core.Path.{_≡_, refl, sym, ap, _∙_, subst}
-use mathlib.Core.Bool.{Bool, true, false}
+use mathlib.Core.Bool.{Bool, true, false, _&&_}
 use mathlib.Core.Option.{Option, none, some}
 use mathlib.Core.List.{List, [], _∷_, _++_, map, foldl}
 use lib.Dec.{T, leb, eqb, leb→le, le→leb, eqb→eq}
@@ -38,11 +38,11 @@ use Rattle.engine.specs.rules.Refusals.{refuseUnless, firstOf, refusalOf
 use Rattle.engine.specs.rules.Run.{Step, stepUnless, step}
 use Rattle.engine.specs.rules.Records.{reportsBytes}
 use Rattle.engine.specs.rules.Answers.{countOf, bufferAfter}
-use Rattle.engine.specs.rules.Layout.{venueOf, stepIn}
+use Rattle.engine.specs.rules.Layout.{venueOf, soundWords, stepIn}
 use Rattle.engine.specs.rules.Fill.{askedOrder, fillUnless, wouldFill, wouldFillIn}
 use Rattle.engine.specs.claims.RoundTrips.{Word}
 use Rattle.engine.specs.claims.Calls.{Applied}
-use Rattle.engine.specs.claims.Fill.{ReadShortest, ReadsShortest, ReadsShortestInCalls, refusalGiven, ofVenueTermsOrMark, RefusedByKind, RefusedAsEntries, RefusedAsEntriesInCalls, NoQuestionGets16, NoQuestionOfCallsGets16, executedBy, executedFor, TrueOf, TrueOfTheEffect, TellsTheTruth, TrueOfBytes, TellsTheTruthOfCalls}
+use Rattle.engine.specs.claims.Fill.{ReadShortest, ReadsShortest, ReadsShortestInCalls, refusalGiven, ofVenueTermsOrMark, RefusedByKind, RefusedByKindInCalls, RefusedAsEntries, RefusedAsEntriesInCalls, NoQuestionGets16, NoQuestionOfCallsGets16, executedBy, executedFor, TrueOf, TrueOfTheEffect, TellsTheTruth, TrueOfBytes, TellsTheTruthOfCalls}
 use Rattle.engine.proofs.refinement.RefuseLaws.{refuse-yes, unrefused}
 use Rattle.engine.proofs.refinement.RefusalLaws.{NotRefused, Unless, refusal-known}
 use Rattle.engine.proofs.refinement.OpeningLaws.{opened-book, opened-venue, step-in}
@@ -309,11 +309,24 @@ true-of-call w e i {b} {count} {w′} {b′} a {o} q = go (stepIn w (entry e) (l
 pub tells-the-truth-of-calls : TellsTheTruthOfCalls
 tells-the-truth-of-calls w e i b count w′ b′ a told q = true-of-call w e i a q
 
+-- words that are laid out as no venue are refused with 16
+
+refused-chosen : (w : List ℕ) (e : Entry) (laid : Bool) → refusalGiven (pick laid (wouldFill (venueOf w) (e .mark) (e .price) (e .shares)) (refuses 16)) ≡ refuseUnless (laid && sound (venueOf w)) 16 (ofVenueTermsOrMark (refusalOfKind (venueOf w) (entry e)))
+unfolding pick refuseUnless
+refused-chosen w e true = refused-by-kind (venueOf w) e
+refused-chosen w e false = refl
+
+pub refused-by-kind-in-words : (w : List ℕ) (e : Entry) → refusalGiven (wouldFillIn w (e .mark) (e .price) (e .shares)) ≡ refuseUnless (soundWords w) 16 (ofVenueTermsOrMark (refusalOfKind (venueOf w) (entry e)))
+unfolding wouldFillIn soundWords
+refused-by-kind-in-words w e = refused-chosen w e (isBook w)
+
+pub refused-by-kind-in-calls : RefusedByKindInCalls
+refused-by-kind-in-calls w e told q = ap refusalGiven q ∙ refused-by-kind-in-words w e
+
 count-given : (x : Outcome (List Report)) → refusalGiven (countOf x) ≡ refusalGiven x
 count-given (gives rs) = refl
 count-given (refuses n) = refl
 
--- words that are laid out as no venue are refused with 16 in both
 module _ (w : List ℕ) (e : Entry) (n : ℕ) (l : leastBuffer ≤ n) (a : venueOf w .acceptedEvents < mostEvents) where
   chosen : (laid : Bool) → refusalGiven (pick laid (wouldFill (venueOf w) (e .mark) (e .price) (e .shares)) (refuses 16)) ≡ ofVenueTermsOrMark (refusalGiven (pick laid (step (venueOf w) (entry e) n) (record { answer = refuses 16; venue = venueOf w }) .answer))
   unfolding pick ofVenueTermsOrMark

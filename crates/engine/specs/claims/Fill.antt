@@ -23,7 +23,7 @@ use Rattle.engine.specs.rules.Sound.{mostOrders, mostEvents, sound}
 use Rattle.engine.specs.rules.Refusals.{refuseUnless, refusalOfKind, leastBuffer}
 use Rattle.engine.specs.rules.Run.{Call, step, run}
 use Rattle.engine.specs.rules.Records.{reportsUpTo}
-use Rattle.engine.specs.rules.Layout.{venueOf, openedWords}
+use Rattle.engine.specs.rules.Layout.{venueOf, soundWords, openedWords}
 use Rattle.engine.specs.rules.Fill.{askedOrder, wouldFill, wouldFillIn, outcomeOfFill}
 use Rattle.engine.specs.claims.RoundTrips.{Word}
 use Rattle.engine.specs.claims.Calls.{Applied, AppliedCall, Chain}
@@ -47,6 +47,12 @@ ReadsShortest =
     (v : Venue) (mark price shares : ℕ) (r : FrontRead) → wouldFill v mark price shares ≡ gives r →
     ReadShortest (askedOrder (v .market) mark price shares) (v .orders) r
 
+-- the same of the calls
+abbrev pub ReadsShortestInCalls : Type 0
+ReadsShortestInCalls =
+    (w : List ℕ) (mark price shares : ℕ) (told : FillAnswer) → outcomeOfFill told ≡ wouldFillIn w mark price shares →
+    (r : FrontRead) → outcomeOfFill told ≡ gives r → ReadShortest (askedOrder (venueOf w .market) mark price shares) (resting w) r
+
 -- at most 256 orders are read, and a refusal has a number of at least 1, of any words
 abbrev pub FillFits : Outcome FrontRead → Type 0
 FillFits (gives r) = r.read ≤ mostOrders
@@ -54,12 +60,6 @@ FillFits (refuses n) = 1 ≤ n
 
 abbrev pub FillsFit : Type 0
 FillsFit = (w : List ℕ) (mark price shares : ℕ) → FillFits (wouldFillIn w mark price shares)
-
--- the same of the calls
-abbrev pub ReadsShortestInCalls : Type 0
-ReadsShortestInCalls =
-    (w : List ℕ) (mark price shares : ℕ) (told : FillAnswer) → outcomeOfFill told ≡ wouldFillIn w mark price shares →
-    (r : FrontRead) → outcomeOfFill told ≡ gives r → ReadShortest (askedOrder (venueOf w .market) mark price shares) (resting w) r
 
 -- Its refusals
 
@@ -72,11 +72,18 @@ unfoldable pub ofVenueTermsOrMark : Option ℕ → Option ℕ
 ofVenueTermsOrMark none = none
 ofVenueTermsOrMark (some n) = pick (eqb n 16 || (eqb n 3 || (eqb n 4 || eqb n 18))) (some n) none
 
--- they "are refused as in an entry", and "a full book or spent events don't matter": of every venue, by the refusals of an entry's kind
+-- they "are refused as in an entry", and "a full book or spent events don't matter": of every venue, against the refusals of an entry that come after
+-- 16, 1 and 2
 abbrev pub RefusedByKind : Type 0
 RefusedByKind =
     (v : Venue) (e : Entry) →
     refusalGiven (wouldFill v (e .mark) (e .price) (e .shares)) ≡ refuseUnless (sound v) 16 (ofVenueTermsOrMark (refusalOfKind v (entry e)))
+
+-- the same of the calls
+abbrev pub RefusedByKindInCalls : Type 0
+RefusedByKindInCalls =
+    (w : List ℕ) (e : Entry) (told : FillAnswer) → outcomeOfFill told ≡ wouldFillIn w (e .mark) (e .price) (e .shares) →
+    refusalGiven (outcomeOfFill told) ≡ refuseUnless (soundWords w) 16 (ofVenueTermsOrMark (refusalOfKind (venueOf w) (entry e)))
 
 -- by the answer of an entry that has a long enough buffer, while events are left
 abbrev pub RefusedAsEntries : Type 0
@@ -124,15 +131,14 @@ pub record TrueOf (e : Entry) (rs : List Report) (answer : Outcome FrontRead) : 
   pub answers : answer ≡ gives front
   pub truth : front.fills ≡ eqb (executedFor (e .id) rs) (e .shares)
 
--- "tell whether an entry would fill in full now": for every entry with a new id, whether or not it would be accepted, the answer for its mark, price and
--- shares is true of what it would report; "a full book or spent events don't matter to it"
+-- "tell whether an entry would fill in full now": where the question for its mark, price and shares isn't refused, the answer is true of the reports that the
+-- rules give an entry with a new id, whether or not it would be accepted; "a full book or spent events don't matter to it"
 abbrev pub TrueOfTheEffect : Type 0
 TrueOfTheEffect =
     (v : Venue) (e : Entry) → v.lastId < e.id → (r : FrontRead) → wouldFill v (e .mark) (e .price) (e .shares) ≡ gives r →
     r.fills ≡ eqb (executedFor (e .id) (effectOfEntry (v .market) v e .reports)) (e .shares)
 
--- where an entry is accepted, whatever its show, life and slide, the answer for its mark, price and shares is
--- true of its reports
+-- where an entry is accepted, whatever its show, life and slide, the answer for its mark, price and shares is true of its reports
 abbrev pub TellsTheTruth : Type 0
 TellsTheTruth =
     (v : Venue) (e : Entry) (n : ℕ) (rs : List Report) → step v (entry e) n .answer ≡ gives rs →

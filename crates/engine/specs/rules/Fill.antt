@@ -19,7 +19,7 @@ use Rattle.engine.specs.rules.Refusals.{refuseUnless, refusalOfAsked}
 use Rattle.engine.specs.rules.Answers.{refusalNumber}
 use Rattle.engine.specs.rules.Layout.{venueOf}
 
--- "Given a mark, limit and shares": the entry that is asked about. Whom it reaches doesn't rest on its id, show, life and slide
+-- "Given a mark, limit and shares": the entry that is asked about. Whom it reaches doesn't depend on its id, show, life and slide
 abbrev pub askedEntry : ℕ → ℕ → ℕ → Entry
 askedEntry mark price shares = record { id = 0; mark = mark; price = price; shares = shares; show = 0; life = 0; slide = 0 }
 

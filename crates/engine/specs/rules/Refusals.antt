@@ -38,7 +38,7 @@ refusalOfTerms step price shares =
 
 -- its codes, No. 3: "A bad mark, a bad slide code, and a slide on an order that isn't short become their own answers. A bad show or life keeps 5. They are
 -- looked for in the order mark, show, life, slide code, slide on the wrong mark. These carry 18, 19 and 20, in the place where 5 stands"
--- the mark is asked by No. 4 too, which has no other code
+-- No. 4 tests the mark too, and no other code
 abbrev pub refusalOfMark : ℕ → Option ℕ → Option ℕ
 refusalOfMark mark later = refuseUnless (leb mark 3) 18 later
 

@@ -13,14 +13,14 @@ use Rattle.engine.specs.declared.Entry.{Entry}
 use Rattle.engine.specs.declared.Event.the-variants.{Entry as entry}
 use Rattle.engine.specs.rules.Fill.{wouldFillIn}
 use Rattle.engine.specs.claims.Calls.{Applied}
-use Rattle.engine.specs.claims.Fill.{FillFits}
+use Rattle.engine.specs.claims.Fill.{FillFits, refusalGiven}
 use Rattle.engine.proofs.bytes.RecordLaws.{record-unique}
 use Rattle.engine.proofs.refinement.QuestionLaws.{fills-fit, words-not-16}
-use Rattle.engine.proofs.requests.FillLaws.{in-words-shortest, true-of-call, refused-in-call}
+use Rattle.engine.proofs.requests.FillLaws.{in-words-shortest, refused-by-kind-in-words, true-of-call, refused-in-call}
 use Rattle.host.specs.rules.Host.{hostAnswer, outcomeOf}
 use Rattle.host.specs.rules.Fill.{frontNumber, fillCount, fillRead}
 use Rattle.host.specs.claims.Calls.{EventApplied}
-use Rattle.host.specs.claims.HostFill.{FillNumbersRead, NoHostQuestionGets16, ReadsShortestForHosts, AskedBefore, TellsHostsTheTruth, RefusedAsEntriesForHosts}
+use Rattle.host.specs.claims.HostFill.{FillNumbersRead, NoHostQuestionGets16, ReadsShortestForHosts, RefusedByKindForHosts, AskedBefore, TellsHostsTheTruth, RefusedAsEntriesForHosts}
 use Rattle.host.proofs.demand3.HostDayLaws.{reached-words-sound}
 
 -- the number
@@ -50,6 +50,10 @@ pub no-host-question-gets-16 : NoHostQuestionGets16
 unfolding fillRead pick
 no-host-question-gets-16 w s close w₀ h hs w′ c mark price shares z =
     words-not-16 w′ mark price shares (reached-words-sound h c) (sym (fill-numbers-read w′ mark price shares) ∙ ap fillRead z)
+
+pub refused-by-kind-for-hosts : RefusedByKindForHosts
+refused-by-kind-for-hosts w e number h =
+    ap refusalGiven (ap fillRead h ∙ fill-numbers-read w (e .mark) (e .price) (e .shares)) ∙ refused-by-kind-in-words w e
 
 -- the call behind it
 

@@ -11,9 +11,9 @@ use Rattle.book.specs.rules.Words.{resting}
 use Rattle.engine.specs.declared.Entry.{Entry}
 use Rattle.engine.specs.declared.Event.the-variants.{Entry as entry}
 use Rattle.engine.specs.rules.Sound.{mostEvents}
-use Rattle.engine.specs.rules.Refusals.{leastBuffer}
+use Rattle.engine.specs.rules.Refusals.{refuseUnless, refusalOfKind, leastBuffer}
 use Rattle.engine.specs.rules.Records.{recordAt}
-use Rattle.engine.specs.rules.Layout.{venueOf}
+use Rattle.engine.specs.rules.Layout.{venueOf, soundWords}
 use Rattle.engine.specs.rules.Fill.{askedOrder, wouldFillIn}
 use Rattle.engine.specs.claims.Fill.{ReadShortest, refusalGiven, ofVenueTermsOrMark, TrueOfBytes}
 use Rattle.host.specs.rules.Host.{hostAnswer, outcomeOf}
@@ -34,26 +34,31 @@ NoHostQuestionGets16 =
 -- "the count of orders read, equal to the shortest front of the book that suffices, or the whole book"
 abbrev pub ReadsShortestForHosts : Type 0
 ReadsShortestForHosts =
-    (w : List ℕ) (mark price shares asked : ℕ) → asked ≡ fillNumber w mark price shares →
-    (r : FrontRead) → fillRead asked ≡ gives r → ReadShortest (askedOrder (venueOf w .market) mark price shares) (resting w) r
+    (w : List ℕ) (mark price shares number : ℕ) → number ≡ fillNumber w mark price shares →
+    (r : FrontRead) → fillRead number ≡ gives r → ReadShortest (askedOrder (venueOf w .market) mark price shares) (resting w) r
 
--- a call of venue_apply whose bytes read as the entry e, and the number asked that venue_would_fill answers of the same words for the mark, price and
--- shares of e
-pub record AskedBefore (w bytes b : List ℕ) (answer : ℕ) (w′ b′ : List ℕ) (e : Entry) (end asked : ℕ) : Type 0 where
+-- its refusals are those of an entry that are for venue, price, shares and mark; "a full book or spent events don't matter"
+abbrev pub RefusedByKindForHosts : Type 0
+RefusedByKindForHosts =
+    (w : List ℕ) (e : Entry) (number : ℕ) → number ≡ fillNumber w (e .mark) (e .price) (e .shares) →
+    refusalGiven (fillRead number) ≡ refuseUnless (soundWords w) 16 (ofVenueTermsOrMark (refusalOfKind (venueOf w) (entry e)))
+
+-- a call of venue_apply whose bytes read as the entry e, and the number that venue_would_fill answers of the same words for the mark, price and shares of e
+pub record AskedBefore (w bytes b : List ℕ) (answer : ℕ) (w′ b′ : List ℕ) (e : Entry) (end number : ℕ) : Type 0 where
   pub areBytes : All IsByte bytes
   pub applied : HostApplied w bytes b answer w′ b′
   pub reads : recordAt bytes 0 ≡ gives (record { value = entry e; end = end })
-  pub answered : asked ≡ fillNumber w (e .mark) (e .price) (e .shares)
+  pub answered : number ≡ fillNumber w (e .mark) (e .price) (e .shares)
 
 -- No. 4, "tell whether an entry would fill in full now": where the call is accepted, the answer is true of its report bytes
 abbrev pub TellsHostsTheTruth : Type 0
 TellsHostsTheTruth =
-    (w bytes b : List ℕ) (answer : ℕ) (w′ b′ : List ℕ) (e : Entry) (end asked : ℕ) → AskedBefore w bytes b answer w′ b′ e end asked →
-    answer < 65_536 → TrueOfBytes e b′ answer (fillRead asked)
+    (w bytes b : List ℕ) (answer : ℕ) (w′ b′ : List ℕ) (e : Entry) (end number : ℕ) → AskedBefore w bytes b answer w′ b′ e end number →
+    answer < 65_536 → TrueOfBytes e b′ answer (fillRead number)
 
 -- "refused as in an entry": with a long enough buffer, while events are left
 abbrev pub RefusedAsEntriesForHosts : Type 0
 RefusedAsEntriesForHosts =
-    (w bytes b : List ℕ) (answer : ℕ) (w′ b′ : List ℕ) (e : Entry) (end asked : ℕ) → AskedBefore w bytes b answer w′ b′ e end asked →
+    (w bytes b : List ℕ) (answer : ℕ) (w′ b′ : List ℕ) (e : Entry) (end number : ℕ) → AskedBefore w bytes b answer w′ b′ e end number →
     leastBuffer ≤ length b → venueOf w .acceptedEvents < mostEvents →
-    refusalGiven (fillRead asked) ≡ ofVenueTermsOrMark (refusalGiven (outcomeOf answer))
+    refusalGiven (fillRead number) ≡ ofVenueTermsOrMark (refusalGiven (outcomeOf answer))
