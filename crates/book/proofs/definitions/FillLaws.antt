@@ -98,9 +98,8 @@ module _ (w : Order) (os : List Order) where
           let k = leb→le (w .shares) (allReached w front) (short-enough (omega arith)) in
           absurd (subst T (sym front-fills ∙ e) (le→leb (w .shares) (allReached w os) (omega (arith, k, take-reached (frontRead w os .read) w os))))
 
--- matching
+-- whom an order reaches depends on its mark and its price alone
 
--- whom an order reaches rests on its mark and its price alone
 share-alike : (w x o : Order) → w.mark ≡ x.mark → w.price ≡ x.price → sharesReached w o ≡ sharesReached x o
 unfolding sharesReached reaches
 share-alike w x o m p = rw (m, p)
@@ -109,6 +108,8 @@ pub reached-alike : (w x : Order) → w.mark ≡ x.mark → w.price ≡ x.price 
 unfolding allReached
 reached-alike w x m p [] = refl
 reached-alike w x m p (o ∷ os) = ap₂ (λ (j k : ℕ). j + k) (share-alike w x o m p) (reached-alike w x m p os)
+
+-- matching
 
 taken-reached : (w : Order) {o : Order} {os rs : List Order} → TakenOut o os rs → allReached w os ≡ sharesReached w o + allReached w rs
 unfolding allReached

@@ -25,19 +25,19 @@ unfolding leastBelow
 least-ext zero f g h = refl
 least-ext (suc m) f g h = ap₂ (λ (b : Bool) (k : ℕ). pick b zero (suc k)) (h zero) (least-ext m (λ k. f (suc k)) (λ k. g (suc k)) (λ k. h (suc k)))
 
-least-first : (m : ℕ) (f : ℕ → Bool) → f zero ≡ true → leastBelow m f ≡ zero
+least-zero : (m : ℕ) (f : ℕ → Bool) → f zero ≡ true → leastBelow m f ≡ zero
 unfolding leastBelow pick
-least-first zero f e = refl
-least-first (suc m) f e = rw e
+least-zero zero f e = refl
+least-zero (suc m) f e = rw e
 
 -- the first order has enough
 first-enough : (n : ℕ) (w o : Order) (os : List Order) → 0 < n → n ≤ sharesReached w o → (suffices n w (o ∷ os) ≡ true) × (frontLength n w (o ∷ os) ≡ 1)
 unfolding suffices frontLength leastBelow allReached pick
 first-enough n w o os l h =
     let e : (k : ℕ) → leb n (sharesReached w o + k) ≡ true = λ k. le-leb n (sharesReached w o + k) (omega (arith, h)) in
-    (e (allReached w os), rw (lt-leb n 0 l) (ap suc (least-first (length os) (λ k. leb n (allReached w (o ∷ take k os))) (e (allReached w [])))))
+    (e (allReached w os), rw (lt-leb n 0 l) (ap suc (least-zero (length os) (λ k. leb n (allReached w (o ∷ take k os))) (e (allReached w [])))))
 
--- it hasn't
+-- the first order hasn't enough
 first-short : (n : ℕ) (w o : Order) (os : List Order) → sharesReached w o < n → (suffices n w (o ∷ os) ≡ suffices (n - sharesReached w o) w os) × (frontLength n w (o ∷ os) ≡ suc (frontLength (n - sharesReached w o) w os))
 unfolding suffices frontLength leastBelow allReached pick
 first-short n w o os h =
@@ -46,19 +46,19 @@ first-short n w o os h =
     less : (k : ℕ) → leb n (sharesReached w o + k) ≡ leb (n - sharesReached w o) k
     less k = bool-ext _ _ (λ t. le→leb (n - sharesReached w o) k (omega (arith, leb→le n (sharesReached w o + k) t))) (λ t. le→leb n (sharesReached w o + k) (omega (arith, h, leb→le (n - sharesReached w o) k t)))
 
--- the same from the place i on
+-- the same of the order at the place i
 module _ (n : ℕ) (w : Order) (l : List Order) (i : ℕ) (h : i < length l) where
-  abbrev found : ℕ
-  found = sharesReached w (getD l i emptyOrder)
+  abbrev next : Order
+  next = getD l i emptyOrder
 
-  pub read-enough : 0 < n → n ≤ sharesReached w (getD l i emptyOrder) → readOn n i w (drop i l) ≡ record { fills = true; read = i + 1 }
+  pub read-enough : 0 < n → n ≤ sharesReached w next → readOn n i w (drop i l) ≡ record { fills = true; read = i + 1 }
   read-enough p e =
-      let r = first-enough n w (getD l i emptyOrder) (drop (suc i) l) p e in
+      let r = first-enough n w next (drop (suc i) l) p e in
       rw (drop-cons l i emptyOrder h) (ap₂ (λ (b : Bool) (k : ℕ). record { fills = b; read = i + k }) (r .0) (r .1))
 
-  pub read-short : sharesReached w (getD l i emptyOrder) < n → readOn n i w (drop i l) ≡ readOn (n - sharesReached w (getD l i emptyOrder)) (i + 1) w (drop (i + 1) l)
+  pub read-short : sharesReached w next < n → readOn n i w (drop i l) ≡ readOn (n - sharesReached w next) (i + 1) w (drop (i + 1) l)
   read-short e =
-      let r = first-short n w (getD l i emptyOrder) (drop (suc i) l) e in
+      let r = first-short n w next (drop (suc i) l) e in
       rw (drop-cons l i emptyOrder h, add-one) (ap₂ (λ (b : Bool) (k : ℕ). record { fills = b; read = k }) (r .0) (ap (λ (k : ℕ). i + k) (r .1) ∙ omega arith))
 
 pub read-start : (w : Order) (l : List Order) → readOn (w .shares) 0 w (drop 0 l) ≡ frontRead w l

@@ -42,7 +42,7 @@ use Rattle.engine.specs.rules.Layout.{venueOf, soundWords, stepIn}
 use Rattle.engine.specs.rules.Fill.{askedOrder, fillUnless, wouldFill, wouldFillIn}
 use Rattle.engine.specs.claims.RoundTrips.{Word}
 use Rattle.engine.specs.claims.Calls.{Applied}
-use Rattle.engine.specs.claims.Fill.{ReadShortest, ReadsShortest, ReadsShortestInCalls, refusalGiven, ofVenueTermsOrMark, RefusedByKind, RefusedByKindInCalls, RefusedAsEntries, RefusedAsEntriesInCalls, NoQuestionGets16, NoQuestionOfCallsGets16, executedBy, executedFor, TrueOf, TrueOfTheEffect, TellsTheTruth, TrueOfBytes, TellsTheTruthOfCalls}
+use Rattle.engine.specs.claims.Fill.{answerFor, answerIn, ReadShortest, ReadsShortest, ReadsShortestInCalls, refusalGiven, ofVenueTermsOrMark, RefusedByKind, RefusedByKindInCalls, RefusedAsEntries, RefusedAsEntriesInCalls, NoQuestionGets16, NoQuestionOfCallsGets16, executedBy, executedFor, TrueOf, TrueOfTheEffect, TellsTheTruth, TrueOfBytes, TellsTheTruthOfCalls}
 use Rattle.engine.proofs.refinement.RefuseLaws.{refuse-yes, unrefused}
 use Rattle.engine.proofs.refinement.RefusalLaws.{NotRefused, Unless, refusal-known}
 use Rattle.engine.proofs.refinement.OpeningLaws.{opened-book, opened-venue, step-in}
@@ -92,10 +92,6 @@ others-first : (r later : Option ℕ) → ofVenueTermsOrMark r ≡ none → ofVe
 unfolding firstOf
 others-first none later k h = h
 others-first (some n) later k h = k
-
-none-asked : ofVenueTermsOrMark none ≡ none
-unfolding ofVenueTermsOrMark
-none-asked = refl
 
 terms-asked : (s price shares : ℕ) → ofVenueTermsOrMark (refusalOfTerms s price shares) ≡ refusalOfTerms s price shares
 unfolding refusalOfTerms ofVenueTermsOrMark pick
@@ -247,12 +243,12 @@ module _ (v : Venue) (e : Entry) (n : ℕ) (r : refusal v (entry e) n ≡ none) 
   known = subst (λ (x : Option ℕ). Unless x (NotRefused v (entry e) n)) r (refusal-known v (entry e) n)
 
   -- the question isn't either
-  question-given : wouldFill v (e .mark) (e .price) (e .shares) ≡ gives (frontRead (asked v e) (v .orders))
+  question-given : answerFor v e ≡ gives (frontRead (asked v e) (v .orders))
   unfolding wouldFill fillUnless ofVenueTermsOrMark
   question-given =
       ap (λ (x : Option ℕ). fillUnless x v (e .mark) (e .price) (e .shares)) (sym (refusal-asked v e n (known .buffer) (known .events)) ∙ ap ofVenueTermsOrMark r)
 
-  accepted-true : TrueOf e (theReports v e) (wouldFill v (e .mark) (e .price) (e .shares))
+  accepted-true : TrueOf e (theReports v e) (answerFor v e)
   accepted-true =
       record { front = frontRead (asked v e) (v .orders); answers = question-given; truth = true-of-the-effect v e (known .allowed .place .newId) _ question-given }
 
@@ -260,11 +256,11 @@ pub tells-the-truth : TellsTheTruth
 unfolding step stepUnless effectOf
 tells-the-truth v e n rs q = go (refusal v (entry e) n) refl q
   where
-    go : (x : Option ℕ) → refusal v (entry e) n ≡ x → stepUnless x v (entry e) .answer ≡ gives rs → TrueOf e rs (wouldFill v (e .mark) (e .price) (e .shares))
+    go : (x : Option ℕ) → refusal v (entry e) n ≡ x → stepUnless x v (entry e) .answer ≡ gives rs → TrueOf e rs (answerFor v e)
     go (some k) r z = let y : _≡_ {A = ℕ} 0 1 = cc in absurd (omega arith)
     go none r z =
         let y : effectOfEntry (v .market) v e .reports ≡ rs = cc in
-        subst (λ (l : List Report). TrueOf e l (wouldFill v (e .mark) (e .price) (e .shares))) y (accepted-true v e n r)
+        subst (λ (l : List Report). TrueOf e l (answerFor v e)) y (accepted-true v e n r)
 
 -- Of the calls
 
@@ -290,7 +286,7 @@ unfolding stepIn
 laid-out w e n rs =
     by-test (λ (s : Step). s .answer ≡ gives rs → T (isBook w)) (isBook w) (λ t q. t) (λ t q. let y : _≡_ {A = ℕ} 0 1 = cc in absurd (omega arith))
 
-pub true-of-call : (w : List ℕ) (e : Entry) → Word (e .id) → {b : List ℕ} {count : ℕ} {w′ b′ : List ℕ} → Applied w (entry e) b (gives count) w′ b′ → {o : Outcome FrontRead} → o ≡ wouldFillIn w (e .mark) (e .price) (e .shares) → TrueOfBytes e b′ count o
+pub true-of-call : (w : List ℕ) (e : Entry) → Word (e .id) → {b : List ℕ} {count : ℕ} {w′ b′ : List ℕ} → Applied w (entry e) b (gives count) w′ b′ → {o : Outcome FrontRead} → o ≡ answerIn w e → TrueOfBytes e b′ count o
 true-of-call w e i {b} {count} {w′} {b′} a {o} q = go (stepIn w (entry e) (length b) .answer) refl (a .answers) (a .buffer)
   where
     go : (x : Outcome (List Report)) → stepIn w (entry e) (length b) .answer ≡ x → gives count ≡ countOf x → b′ ≡ bufferAfter b x → TrueOfBytes e b′ count o
@@ -311,12 +307,12 @@ tells-the-truth-of-calls w e i b count w′ b′ a told q = true-of-call w e i a
 
 -- words that are laid out as no venue are refused with 16
 
-refused-chosen : (w : List ℕ) (e : Entry) (laid : Bool) → refusalGiven (pick laid (wouldFill (venueOf w) (e .mark) (e .price) (e .shares)) (refuses 16)) ≡ refuseUnless (laid && sound (venueOf w)) 16 (ofVenueTermsOrMark (refusalOfKind (venueOf w) (entry e)))
+refused-chosen : (w : List ℕ) (e : Entry) (laid : Bool) → refusalGiven (pick laid (answerFor (venueOf w) e) (refuses 16)) ≡ refuseUnless (laid && sound (venueOf w)) 16 (ofVenueTermsOrMark (refusalOfKind (venueOf w) (entry e)))
 unfolding pick refuseUnless
 refused-chosen w e true = refused-by-kind (venueOf w) e
 refused-chosen w e false = refl
 
-pub refused-by-kind-in-words : (w : List ℕ) (e : Entry) → refusalGiven (wouldFillIn w (e .mark) (e .price) (e .shares)) ≡ refuseUnless (soundWords w) 16 (ofVenueTermsOrMark (refusalOfKind (venueOf w) (entry e)))
+pub refused-by-kind-in-words : (w : List ℕ) (e : Entry) → refusalGiven (answerIn w e) ≡ refuseUnless (soundWords w) 16 (ofVenueTermsOrMark (refusalOfKind (venueOf w) (entry e)))
 unfolding wouldFillIn soundWords
 refused-by-kind-in-words w e = refused-chosen w e (isBook w)
 
@@ -328,16 +324,16 @@ count-given (gives rs) = refl
 count-given (refuses n) = refl
 
 module _ (w : List ℕ) (e : Entry) (n : ℕ) (l : leastBuffer ≤ n) (a : venueOf w .acceptedEvents < mostEvents) where
-  chosen : (laid : Bool) → refusalGiven (pick laid (wouldFill (venueOf w) (e .mark) (e .price) (e .shares)) (refuses 16)) ≡ ofVenueTermsOrMark (refusalGiven (pick laid (step (venueOf w) (entry e) n) (record { answer = refuses 16; venue = venueOf w }) .answer))
+  chosen : (laid : Bool) → refusalGiven (pick laid (answerFor (venueOf w) e) (refuses 16)) ≡ ofVenueTermsOrMark (refusalGiven (pick laid (step (venueOf w) (entry e) n) (record { answer = refuses 16; venue = venueOf w }) .answer))
   unfolding pick ofVenueTermsOrMark
   chosen true = refused-as-entries (venueOf w) e n l a
   chosen false = refl
 
-  refused-in-words : refusalGiven (wouldFillIn w (e .mark) (e .price) (e .shares)) ≡ ofVenueTermsOrMark (refusalGiven (stepIn w (entry e) n .answer))
+  refused-in-words : refusalGiven (answerIn w e) ≡ ofVenueTermsOrMark (refusalGiven (stepIn w (entry e) n .answer))
   unfolding wouldFillIn stepIn
   refused-in-words = chosen (isBook w)
 
-pub refused-in-call : (w : List ℕ) (e : Entry) {b : List ℕ} {answer : Outcome ℕ} {w′ b′ : List ℕ} → Applied w (entry e) b answer w′ b′ → leastBuffer ≤ length b → venueOf w .acceptedEvents < mostEvents → {o : Outcome FrontRead} → o ≡ wouldFillIn w (e .mark) (e .price) (e .shares) → refusalGiven o ≡ ofVenueTermsOrMark (refusalGiven answer)
+pub refused-in-call : (w : List ℕ) (e : Entry) {b : List ℕ} {answer : Outcome ℕ} {w′ b′ : List ℕ} → Applied w (entry e) b answer w′ b′ → leastBuffer ≤ length b → venueOf w .acceptedEvents < mostEvents → {o : Outcome FrontRead} → o ≡ answerIn w e → refusalGiven o ≡ ofVenueTermsOrMark (refusalGiven answer)
 refused-in-call w e {b} a l n q =
     ap refusalGiven q ∙ refused-in-words w e (length b) l n ∙ ap ofVenueTermsOrMark (sym (ap refusalGiven (a .answers) ∙ count-given (stepIn w (entry e) (length b) .answer)))
 

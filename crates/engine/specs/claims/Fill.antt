@@ -28,6 +28,13 @@ use Rattle.engine.specs.rules.Fill.{askedOrder, wouldFill, wouldFillIn, 
 use Rattle.engine.specs.claims.RoundTrips.{Word}
 use Rattle.engine.specs.claims.Calls.{Applied, AppliedCall, Chain}
 
+-- the answer for the mark, price and shares of an entry, of a venue and of words
+abbrev pub answerFor : Venue → Entry → Outcome FrontRead
+answerFor v e = wouldFill v (e .mark) (e .price) (e .shares)
+
+abbrev pub answerIn : List ℕ → Entry → Outcome FrontRead
+answerIn w e = wouldFillIn w (e .mark) (e .price) (e .shares)
+
 -- The answer by the book
 
 -- the order w would fill in full: the orders that it reaches have its shares or more
@@ -77,26 +84,26 @@ ofVenueTermsOrMark (some n) = pick (eqb n 16 || (eqb n 3 || (eqb n 4 || eqb n 18
 abbrev pub RefusedByKind : Type 0
 RefusedByKind =
     (v : Venue) (e : Entry) →
-    refusalGiven (wouldFill v (e .mark) (e .price) (e .shares)) ≡ refuseUnless (sound v) 16 (ofVenueTermsOrMark (refusalOfKind v (entry e)))
+    refusalGiven (answerFor v e) ≡ refuseUnless (sound v) 16 (ofVenueTermsOrMark (refusalOfKind v (entry e)))
 
 -- the same of the calls
 abbrev pub RefusedByKindInCalls : Type 0
 RefusedByKindInCalls =
-    (w : List ℕ) (e : Entry) (told : FillAnswer) → outcomeOfFill told ≡ wouldFillIn w (e .mark) (e .price) (e .shares) →
+    (w : List ℕ) (e : Entry) (told : FillAnswer) → outcomeOfFill told ≡ answerIn w e →
     refusalGiven (outcomeOfFill told) ≡ refuseUnless (soundWords w) 16 (ofVenueTermsOrMark (refusalOfKind (venueOf w) (entry e)))
 
 -- by the answer of an entry that has a long enough buffer, while events are left
 abbrev pub RefusedAsEntries : Type 0
 RefusedAsEntries =
     (v : Venue) (e : Entry) (n : ℕ) → leastBuffer ≤ n → v.acceptedEvents < mostEvents →
-    refusalGiven (wouldFill v (e .mark) (e .price) (e .shares)) ≡ ofVenueTermsOrMark (refusalGiven (step v (entry e) n .answer))
+    refusalGiven (answerFor v e) ≡ ofVenueTermsOrMark (refusalGiven (step v (entry e) n .answer))
 
 -- the same of the calls
 abbrev pub RefusedAsEntriesInCalls : Type 0
 RefusedAsEntriesInCalls =
     (w : List ℕ) (e : Entry) (b : List ℕ) (answer : Outcome ℕ) (w′ b′ : List ℕ) → Applied w (entry e) b answer w′ b′ →
     leastBuffer ≤ length b → venueOf w .acceptedEvents < mostEvents →
-    (told : FillAnswer) → outcomeOfFill told ≡ wouldFillIn w (e .mark) (e .price) (e .shares) →
+    (told : FillAnswer) → outcomeOfFill told ≡ answerIn w e →
     refusalGiven (outcomeOfFill told) ≡ ofVenueTermsOrMark (refusalGiven answer)
 
 -- "No venue reached from open gets 16": of lists of events, and of chains of calls
@@ -135,14 +142,14 @@ pub record TrueOf (e : Entry) (rs : List Report) (answer : Outcome FrontRead) : 
 -- rules give an entry with a new id, whether or not it would be accepted; "a full book or spent events don't matter to it"
 abbrev pub TrueOfTheEffect : Type 0
 TrueOfTheEffect =
-    (v : Venue) (e : Entry) → v.lastId < e.id → (r : FrontRead) → wouldFill v (e .mark) (e .price) (e .shares) ≡ gives r →
+    (v : Venue) (e : Entry) → v.lastId < e.id → (r : FrontRead) → answerFor v e ≡ gives r →
     r.fills ≡ eqb (executedFor (e .id) (effectOfEntry (v .market) v e .reports)) (e .shares)
 
 -- where an entry is accepted, whatever its show, life and slide, the answer for its mark, price and shares is true of its reports
 abbrev pub TellsTheTruth : Type 0
 TellsTheTruth =
     (v : Venue) (e : Entry) (n : ℕ) (rs : List Report) → step v (entry e) n .answer ≡ gives rs →
-    TrueOf e rs (wouldFill v (e .mark) (e .price) (e .shares))
+    TrueOf e rs (answerFor v e)
 
 -- the same of the calls, by the report bytes: what would_fill tells of any words is true of the reports of every entry, with a 32-bit id, that apply then
 -- accepts on them
@@ -154,4 +161,4 @@ pub record TrueOfBytes (e : Entry) (after : List ℕ) (count : ℕ) (answer : Ou
 abbrev pub TellsTheTruthOfCalls : Type 0
 TellsTheTruthOfCalls =
     (w : List ℕ) (e : Entry) → Word (e .id) → (b : List ℕ) (count : ℕ) (w′ b′ : List ℕ) → Applied w (entry e) b (gives count) w′ b′ →
-    (told : FillAnswer) → outcomeOfFill told ≡ wouldFillIn w (e .mark) (e .price) (e .shares) → TrueOfBytes e b′ count (outcomeOfFill told)
+    (told : FillAnswer) → outcomeOfFill told ≡ answerIn w e → TrueOfBytes e b′ count (outcomeOfFill told)
