@@ -3,14 +3,12 @@ use Prim.Native.Nat.{ℕ, zero, suc, _+_, _-_, _^_, _/_, _≤_, _<_}
 use native.Mathlib.Decide.{decLt, decLe}
 use native.Mathlib.Omega.{arith}
 use mathlib.Core.Path.{_≡_, refl, sym, ap, _∙_}
-use lib.Dec.{eqb}
 use lib.ListN.{length}
 use lib.Pow.{pow-pos, pow-mono, pow-add}
 use lib.Count.{leadingZeros, leading-top, leading-of-zero}
 use borrow.Author.Tests.{ne-eqb}
 use Rattle.numbers.specs.Tests.{pick}
-use Rattle.numbers.specs.SevenBit.{bytesOf, byteCount, BitLength, countOfBits}
-use Rattle.numbers.proofs.TestLaws.{by-test}
+use Rattle.numbers.specs.SevenBit.{bytesOf, byteCount, BitLength, lengthTaken, countOfBits}
 use Rattle.numbers.proofs.ByteLaws.{length-last, length-more}
 
 -- a number has one bit length
@@ -37,22 +35,18 @@ bit-length-of k (suc x) h =
     let d : suc (t .0) - 1 ≡ t .0 = omega arith in
     rw e (record { none = λ z. absurd (omega arith); low = λ p. rw d (t .2); high = t .3 })
 
--- the rule of the counts: one for at most seven bits, and one more for seven more
+-- the formula's count: one for at most seven bits, and one more for seven more
 count-small : (n : ℕ) → n ≤ 7 → countOfBits n ≡ 1
-unfolding countOfBits pick
+unfolding countOfBits lengthTaken pick
 count-small zero h = refl
 count-small (suc n) h = rw (ne-eqb (suc n) 0 (λ e. omega arith)) (omega arith)
 
 count-more : (n : ℕ) → countOfBits (n + 8) ≡ suc (countOfBits (n + 1))
-unfolding countOfBits pick
+unfolding countOfBits lengthTaken pick
 count-more n = rw (ne-eqb (n + 8) 0 (λ e. omega arith), ne-eqb (n + 1) 0 (λ e. omega arith)) (omega arith)
 
-pub count-bound : (n : ℕ) → countOfBits n ≤ n + 1
-unfolding countOfBits
-count-bound n = by-test (λ (c : ℕ). c ≤ n + 1) (eqb n 0) (λ t. omega arith) (λ t. omega arith)
-
 -- a number below 2 ^ k has at most k bits
-pub bits-bound : (k x n : ℕ) → x < 2 ^ k → BitLength x n → n ≤ k
+bits-bound : (k x n : ℕ) → x < 2 ^ k → BitLength x n → n ≤ k
 bits-bound k zero n l h = omega (arith, h .none refl)
 bits-bound k (suc x) n l h =
     elim (decLe n k) [
@@ -83,7 +77,7 @@ bits-more x n h l = (m, e, record { none = λ z. absurd (omega arith); low = λ 
     high : x < 2 ^ (m + 8)
     high = rw e at (h .high)
 
--- the count of the table's rule is the length of the number's bytes
+-- the formula's count is the length of the number's bytes
 by-bits : (f x n : ℕ) → x ≤ f → BitLength x n → length (bytesOf x) ≡ countOfBits n
 by-bits zero x n l h = length-last x (omega arith) ∙ sym (count-small n (bits-bound 7 x n (omega arith) h))
 by-bits (suc f) x n l h =

@@ -5,4 +5,3 @@ pub mod PlaceLaws
 pub mod CountLaws
 pub mod ReadLaws
 pub mod WriteLaws
-mod Table

@@ -43,9 +43,13 @@ pub record BitLength (x n : ℕ) : Type 0 where
   pub low : 0 < x → 2 ^ (n - 1) ≤ x
   pub high : x < 2 ^ n
 
--- "a table of 65 counts, one for each bit length": the rule of its entries
+-- No. 5: "Bit length n, taken as 1 for 0"
+unfoldable pub lengthTaken : ℕ → ℕ
+lengthTaken n = pick (eqb n 0) 1 n
+
+-- "needs (n + 6) / 7 bytes, rounded down"
 unfoldable pub countOfBits : ℕ → ℕ
-countOfBits n = pick (eqb n 0) 1 ((n + 6) / 7)
+countOfBits n = (lengthTaken n + 6) / 7
 
 -- Reading
 

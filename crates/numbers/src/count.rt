@@ -1,76 +1,7 @@
 // Bit lengths, and how many bytes a number takes.
 ghost use mathlib.Core.Path.{_≡_};
 ghost use lib.ListN.{length};
-ghost use Rattle.numbers.specs.SevenBit.{BitLength, byteCount, bytesOfAll};
-
-// "a table of 65 counts, one for each bit length"
-const COUNTS: [u8; 65] = [
-    1,
-    1,
-    1,
-    1,
-    1,
-    1,
-    1,
-    1,
-    2,
-    2,
-    2,
-    2,
-    2,
-    2,
-    2,
-    3,
-    3,
-    3,
-    3,
-    3,
-    3,
-    3,
-    4,
-    4,
-    4,
-    4,
-    4,
-    4,
-    4,
-    5,
-    5,
-    5,
-    5,
-    5,
-    5,
-    5,
-    6,
-    6,
-    6,
-    6,
-    6,
-    6,
-    6,
-    7,
-    7,
-    7,
-    7,
-    7,
-    7,
-    7,
-    8,
-    8,
-    8,
-    8,
-    8,
-    8,
-    8,
-    9,
-    9,
-    9,
-    9,
-    9,
-    9,
-    9,
-    10,
-];
+ghost use Rattle.numbers.specs.SevenBit.{BitLength, lengthTaken, byteCount, bytesOfAll};
 
 // "the bit length of a number is 64 less its leading zeros"
 fn bit_length(x: u64) -> u32
@@ -79,11 +10,22 @@ fn bit_length(x: u64) -> u32
     64 - u64::leading_zeros(x)
 }
 
+// No. 5: "Bit length n, taken as 1 for 0"
+fn length_taken(n: u32) -> u32
+    ensures { λ r. ⌜ r ≡ lengthTaken n ⌝ }
+{
+    if n == 0 {
+        return 1;
+    }
+    n
+}
+
+// "needs (n + 6) / 7 bytes, rounded down"
 fn byte_count(x: u64) -> usize
     ensures { λ r. ⌜ r ≡ byteCount x ⌝ }
 {
-    let n = bit_length(x) as usize;
-    COUNTS[n] as usize
+    let n = length_taken(bit_length(x)) as usize;
+    (n + 6) / 7
 }
 
 // How many bytes several numbers take, one after another.
