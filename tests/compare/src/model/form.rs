@@ -6,10 +6,19 @@ use super::Refusal;
 /// The longest number, 2^64 - 1, has ten groups of seven bits.
 pub const LONGEST_NUMBER: usize = 10;
 
-/// How many groups of seven bits a number has; 0 has one too.
+/// "the bit length of a number is 64 less its leading zeros"
+fn bit_length(number: u64) -> usize {
+    64 - number.leading_zeros() as usize
+}
+
+/// No. 5: "Bit length n, taken as 1 for 0, needs (n + 6) / 7 bytes, rounded
+/// down."
 pub fn byte_count(number: u64) -> usize {
-    let bits = 64 - number.leading_zeros() as usize;
-    bits.div_ceil(7).max(1)
+    let n = match bit_length(number) {
+        0 => 1,
+        n => n,
+    };
+    (n + 6) / 7
 }
 
 /// Reads the number at an offset and gives it with its end. "9 when a byte is
