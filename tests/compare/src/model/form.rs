@@ -6,10 +6,20 @@ use super::Refusal;
 /// The longest number, 2^64 - 1, has ten groups of seven bits.
 pub const LONGEST_NUMBER: usize = 10;
 
-/// How many groups of seven bits a number has; 0 has one too.
+/// "the bit length of a number is 64 less its leading zeros"
+fn bit_length(number: u64) -> usize {
+    64 - number.leading_zeros() as usize
+}
+
+/// No. 5: "Bit length n, taken as 1 for 0, needs (n + 6) / 7 bytes, rounded
+/// down."
+#[allow(clippy::manual_div_ceil)] // the paper's formula
 pub fn byte_count(number: u64) -> usize {
-    let bits = 64 - number.leading_zeros() as usize;
-    bits.div_ceil(7).max(1)
+    let n = match bit_length(number) {
+        0 => 1,
+        n => n,
+    };
+    (n + 6) / 7
 }
 
 /// Reads the number at an offset and gives it with its end. "9 when a byte is
@@ -313,6 +323,74 @@ mod tests {
         assert_eq!(byte_count(u64::MAX), LONGEST_NUMBER);
     }
 
+    /// The least and the greatest number of a bit length; 0 is the only number of
+    /// length 0.
+    fn least_and_greatest(n: usize) -> [u64; 2] {
+        match n {
+            0 => [0, 0],
+            _ => [1 << (n - 1), u64::MAX >> (64 - n)],
+        }
+    }
+
+    fn numbers_of_all_lengths() -> impl Iterator<Item = u64> {
+        (0..=64).flat_map(least_and_greatest)
+    }
+
+    #[test]
+    fn each_bit_length_begins_where_the_one_before_ends() {
+        for n in 0..=64 {
+            assert_eq!(least_and_greatest(n).map(bit_length), [n; 2]);
+        }
+        for n in 1..=64 {
+            let [_, end] = least_and_greatest(n - 1);
+            assert_eq!(least_and_greatest(n)[0] - 1, end);
+        }
+        assert_eq!(least_and_greatest(64)[1], u64::MAX);
+    }
+
+    /// How many groups of seven bits a number has, by division.
+    fn groups(mut number: u64) -> usize {
+        let mut count = 1;
+        while number >= 128 {
+            number /= 128;
+            count += 1;
+        }
+        count
+    }
+
+    #[test]
+    fn byte_counts_are_the_groups_of_seven_bits() {
+        for number in numbers_of_all_lengths() {
+            assert_eq!(byte_count(number), groups(number), "{number}");
+        }
+    }
+
+    /// Writes a number at offset 1 between bytes 170 and gives the bytes and its
+    /// end.
+    fn written(number: u64) -> ([u8; LONGEST_NUMBER + 2], usize) {
+        let mut bytes = [170; LONGEST_NUMBER + 2];
+        let end = write_number(&mut bytes, 1, number);
+        (bytes, end)
+    }
+
+    #[test]
+    fn byte_counts_are_the_bytes_written() {
+        for number in numbers_of_all_lengths() {
+            let (_, end) = written(number);
+            assert_eq!(byte_count(number), end - 1, "{number}");
+        }
+    }
+
+    #[test]
+    fn numbers_of_all_lengths_read_back() {
+        for number in numbers_of_all_lengths() {
+            let (bytes, end) = written(number);
+            assert_eq!(read_number(&bytes, 1), Ok((number, end)));
+            assert_eq!(bytes[0], 170);
+            assert!(bytes[end..].iter().all(|&byte| byte == 170), "{number}");
+        }
+    }
+
     #[test]
     fn numbers_are_judged_as_in_section_a() {
         let long = |tenth: &[u8]| [&[0xFF; 9], tenth].concat();
@@ -351,5 +429,52 @@ mod tests {
         assert_eq!(bytes, [7; 6]);
         assert_eq!(write_record(&mut bytes, 1, &bid), Ok(5));
         assert_eq!(bytes, [7, 3, 0xDC, 0xC7, 5, 7]);
+    }
+
+    /// A record of so many bytes is written where it just fits; one byte less
+    /// room is 13, and the buffer keeps its content.
+    fn just_fits(event: Event, count: usize) {
+        let mut short = vec![7; 1 + count];
+        assert_eq!(write_record(&mut short, 2, &event), Err(NoRoom));
+        assert!(short.iter().all(|&byte| byte == 7));
+        let mut bytes = vec![7; 2 + count];
+        assert_eq!(write_record(&mut bytes, 2, &event), Ok(2 + count));
+        assert_eq!(bytes[..2], [7; 2]);
+        assert_eq!(read_record(&bytes, 2), Ok((event, 2 + count)));
+    }
+
+    fn entry([id, mark, price, shares, show, life, slide]: [u32; 7]) -> Event {
+        Event::Entry(Entry {
+            id,
+            mark,
+            price,
+            shares,
+            show,
+            life,
+            slide,
+        })
+    }
+
+    /// The least and the greatest fields of 1 to 5 bytes. The writer doesn't judge
+    /// fields (A9).
+    #[test]
+    fn records_are_written_where_they_just_fit() {
+        let fields = [
+            [0, 127],
+            [128, 16_383],
+            [16_384, 2_097_151],
+            [2_097_152, 268_435_455],
+            [268_435_456, 4_294_967_295],
+        ];
+        for (count, fields) in (1..).zip(fields) {
+            for field in fields {
+                just_fits(Event::Cancel { id: field }, 1 + count);
+                just_fits(Event::DayEnd { price: field }, 1 + count);
+                just_fits(entry([field; 7]), 1 + 7 * count);
+            }
+        }
+        let [one, two, three, four, five] = fields.map(|[least, _]| least);
+        let all = entry([five, one, four, three, two, one, two]);
+        just_fits(all, 1 + 5 + 1 + 4 + 3 + 2 + 1 + 2);
     }
 }
