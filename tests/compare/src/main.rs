@@ -9,6 +9,7 @@ mod asked;
 mod asker;
 mod bench;
 mod bench_fill;
+mod bench_numbers;
 mod by_cents;
 mod by_limits;
 #[cfg(feature = "engine")]
@@ -38,6 +39,7 @@ mod made_up;
 mod market_days;
 mod market_orders;
 mod model;
+mod numbers;
 #[cfg(feature = "engine")]
 mod observe;
 mod odd;
@@ -62,8 +64,8 @@ use std::path::Path;
 use std::process::ExitCode;
 
 const USAGE: &str = "usage: compare play [--step STEP] [FILE] | vectors [--step STEP] DIR |
-       fill [--step STEP] DIR | check SEED EVENTS | bench; with the feature `engine` also:
-       compare SEED EVENTS
+       fill [--step STEP] DIR | check SEED EVENTS | bench | numbers LIBRARY..; with the
+       feature `engine` also: compare SEED EVENTS
        STEP is 50 or 100, without it 100";
 
 fn main() -> ExitCode {
@@ -87,6 +89,7 @@ fn run(words: &[&str]) -> io::Result<bool> {
         ["fill", ref rest @ ..] => in_directory(rest, fill_vectors::run),
         ["check", seed, events] => Ok(check::run(number(seed)?, number(events)?)),
         ["bench"] => Ok(bench::run()),
+        ["numbers", ref libraries @ ..] => numbers::run(libraries),
         #[cfg(feature = "engine")]
         ["compare", seed, events] => Ok(compare::run(number(seed)?, number(events)?)),
         _ => Err(io::Error::other(USAGE)),

@@ -14,8 +14,8 @@ mod venue;
 pub use book::{copy_out, depth, Order, OrderRecord, Side, BUY, OPT_OUT, PLACES, SHORT};
 pub use fill::{Fill, Question};
 pub use form::{
-    read_number, read_record, write_number, write_record, Entry, Event, Report, ReportWriter,
-    LONGEST_NUMBER,
+    byte_count, read_number, read_record, write_number, write_record, Entry, Event, Report,
+    ReportWriter, LONGEST_NUMBER,
 };
 pub use play::Progress;
 #[cfg(feature = "engine")]
