@@ -1,4 +1,4 @@
--- The seven-bit form of a number: document 01, "The seven-bit form". Assumes nothing.
+-- The seven-bit form of a number: document 01, "The seven-bit form", and document 02, No. 5. Assumes nothing.
 use Prim.Native.Nat.{ℕ, zero, suc, _+_, _-_, _*_, _^_, _/_, _%_, _≤_, _<_}
 use mathlib.Core.Path.{_≡_}
 use mathlib.Core.Bool.{_&&_}

@@ -1,7 +1,8 @@
 //! The part of `numbers` that times reading and writing.
 
 use crate::model::LONGEST_NUMBER;
-use crate::numbers::{of_any_length, Library, Model, Numbers, MOST_NUMBERS};
+use crate::number_sides::{Library, Model, Side};
+use crate::numbers::{of_any_length, MOST_NUMBERS};
 use crate::rng::Rng;
 use std::hint::black_box;
 use std::time::{Duration, Instant};
@@ -27,7 +28,7 @@ impl Lent {
         Lent { numbers, bytes }
     }
 
-    fn read(&self, side: &dyn Numbers) -> u64 {
+    fn read(&self, side: &dyn Side) -> u64 {
         let mut sum: u64 = 0;
         let mut at = 0;
         while at < self.bytes.len() {
@@ -39,7 +40,7 @@ impl Lent {
     }
 
     /// Writes so many at once, each time at the front of a buffer with room for them.
-    fn write(&self, side: &dyn Numbers, at_once: usize) -> u64 {
+    fn write(&self, side: &dyn Side, at_once: usize) -> u64 {
         let mut buffer = [0; MOST_NUMBERS * LONGEST_NUMBER];
         let mut bytes = 0;
         for numbers in self.numbers.chunks(at_once) {
@@ -50,14 +51,18 @@ impl Lent {
     }
 }
 
-/// Each side's nanoseconds a number, in turns, the best of all rounds.
-fn time(what: &str, sides: &[(&str, &dyn Numbers)], work: impl Fn(&dyn Numbers) -> u64) {
+/// Prints each side's nanoseconds a number, in turns, the best of all rounds. Gives
+/// whether each gave what the model gives.
+fn time(what: &str, sides: &[(&str, &dyn Side)], work: impl Fn(&dyn Side) -> u64) -> bool {
     let mut best = vec![Duration::MAX; sides.len()];
+    let expected = work(&Model);
+    let mut well = true;
     for _ in 0..ROUNDS {
         for ((_, side), best) in sides.iter().zip(&mut best) {
             let start = Instant::now();
-            black_box(work(*side));
+            let given = work(*side);
             *best = start.elapsed().min(*best);
+            well &= given == expected;
         }
     }
     print!("  {what:<22}");
@@ -66,16 +71,17 @@ fn time(what: &str, sides: &[(&str, &dyn Numbers)], work: impl Fn(&dyn Numbers) 
         print!("  {name} {time:.2}");
     }
     println!();
+    well
 }
 
-/// Numbers of this bit length.
+/// The greatest number of this bit length, over and over.
 fn of_length(bits: u32) -> Vec<u64> {
     vec![u64::MAX >> (64 - bits); NUMBERS]
 }
 
-/// Times the model and the libraries.
-pub fn run(names: &[&str], libraries: &[Library]) {
-    let mut sides: Vec<(&str, &dyn Numbers)> = vec![("model", &Model)];
+/// Times the model and the libraries. Gives whether each gave what the model gives.
+pub fn run(names: &[&str], libraries: &[Library]) -> bool {
+    let mut sides: Vec<(&str, &dyn Side)> = vec![("model", &Model)];
     for (name, library) in names.iter().zip(libraries) {
         sides.push((name, library));
     }
@@ -88,12 +94,14 @@ pub fn run(names: &[&str], libraries: &[Library]) {
         ("10 bytes", of_length(64)),
         ("any length", any),
     ];
+    let mut well = true;
     for (what, numbers) in lent {
         let lent = Lent::new(numbers);
         println!("nanoseconds a number, {what}:");
-        time("read", &sides, |side| lent.read(side));
-        time("write", &sides, |side| lent.write(side, 1));
+        well &= time("read", &sides, |side| lent.read(side));
+        well &= time("write", &sides, |side| lent.write(side, 1));
         let at_once = format!("write, {MOST_NUMBERS} at once");
-        time(&at_once, &sides, |side| lent.write(side, MOST_NUMBERS));
+        well &= time(&at_once, &sides, |side| lent.write(side, MOST_NUMBERS));
     }
+    well
 }

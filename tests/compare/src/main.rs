@@ -39,6 +39,7 @@ mod made_up;
 mod market_days;
 mod market_orders;
 mod model;
+mod number_sides;
 mod numbers;
 #[cfg(feature = "engine")]
 mod observe;
@@ -89,7 +90,7 @@ fn run(words: &[&str]) -> io::Result<bool> {
         ["fill", ref rest @ ..] => in_directory(rest, fill_vectors::run),
         ["check", seed, events] => Ok(check::run(number(seed)?, number(events)?)),
         ["bench"] => Ok(bench::run()),
-        ["numbers", ref libraries @ ..] => numbers::run(libraries),
+        ["numbers", _, ..] => numbers::run(&words[1..]),
         #[cfg(feature = "engine")]
         ["compare", seed, events] => Ok(compare::run(number(seed)?, number(events)?)),
         _ => Err(io::Error::other(USAGE)),

@@ -1,11 +1,11 @@
 //! `numbers`: reading and writing of numbers by the crate `numbers`, held against
-//! the model. No call of include/venue.h writes numbers that may not fit, so the
-//! crate comes as a shared library of its own, one for each checkout.
+//! the model.
 
 use crate::bench_numbers;
-use crate::model::{byte_count, read_number, write_number, Refusal, LONGEST_NUMBER};
+use crate::model::LONGEST_NUMBER;
+use crate::number_sides::{Answer, Library, Model, Side, REFUSALS};
 use crate::rng::Rng;
-use std::ffi::{c_char, c_int, c_void, CString};
+use std::fmt::{self, Debug, Display, Formatter};
 use std::io;
 
 const SEED: u64 = 5;
@@ -14,113 +14,8 @@ const NONSENSE: usize = 1_000_000;
 /// The most numbers that are written at once: those of an entry.
 pub const MOST_NUMBERS: usize = 8;
 
-type Answer<T> = Result<T, Refusal>;
-
-/// A side, which reads a number at an offset and gives it with its end, and writes
-/// numbers at an offset and gives their end.
-pub trait Numbers {
-    fn read(&self, bytes: &[u8], at: usize) -> Answer<(u64, usize)>;
-    fn write(&self, bytes: &mut [u8], at: usize, numbers: &[u64]) -> Answer<usize>;
-}
-
-pub struct Model;
-
-impl Numbers for Model {
-    fn read(&self, bytes: &[u8], at: usize) -> Answer<(u64, usize)> {
-        read_number(bytes, at)
-    }
-
-    /// "13 if it doesn't fit the lent buffer from there"
-    fn write(&self, bytes: &mut [u8], at: usize, numbers: &[u64]) -> Answer<usize> {
-        let count = numbers.iter().map(|&number| byte_count(number)).sum();
-        match at.checked_add(count) {
-            Some(end) if end <= bytes.len() => {
-                let write = |at, &number| write_number(bytes, at, number);
-                Ok(numbers.iter().fold(at, write))
-            }
-            _ => Err(Refusal::NoRoom),
-        }
-    }
-}
-
-type ReadCall = unsafe extern "C" fn(*const u8, usize, usize, *mut u64, usize) -> u32;
-type WriteCall =
-    unsafe extern "C" fn(*mut u8, usize, usize, *const u64, usize, *mut u64, usize) -> u32;
-
-/// The crate `numbers` behind the calls of numbers_calls.txt.
-pub struct Library {
-    read: ReadCall,
-    write: WriteCall,
-}
-
-const RTLD_NOW: c_int = 2;
-
-extern "C" {
-    fn dlopen(path: *const c_char, flags: c_int) -> *mut c_void;
-    fn dlsym(library: *mut c_void, name: *const c_char) -> *mut c_void;
-}
-
-impl Library {
-    pub fn open(path: &str) -> io::Result<Self> {
-        let failed = || io::Error::other(format!("{path} isn't a library of numbers"));
-        let name = CString::new(path)?;
-        // The library stays open. A null handle would be the program itself.
-        let library = unsafe { dlopen(name.as_ptr(), RTLD_NOW) };
-        if library.is_null() {
-            return Err(failed());
-        }
-        let read = unsafe { dlsym(library, c"number_read".as_ptr()) };
-        let write = unsafe { dlsym(library, c"numbers_write".as_ptr()) };
-        if read.is_null() || write.is_null() {
-            return Err(failed());
-        }
-        Ok(Library {
-            read: unsafe { std::mem::transmute::<*mut c_void, ReadCall>(read) },
-            write: unsafe { std::mem::transmute::<*mut c_void, WriteCall>(write) },
-        })
-    }
-}
-
-/// The refusal of this number, of those that numbers have.
-fn refusal(number: u32) -> Refusal {
-    let known = [Refusal::MissingByte, Refusal::BadNumber, Refusal::NoRoom];
-    let mut known = known.into_iter();
-    let found = known.find(|refusal| refusal.number() == number);
-    found.expect("a refusal of numbers")
-}
-
-impl Numbers for Library {
-    fn read(&self, bytes: &[u8], at: usize) -> Answer<(u64, usize)> {
-        let mut found = [0; 2];
-        let call = self.read;
-        match unsafe { call(bytes.as_ptr(), bytes.len(), at, found.as_mut_ptr(), 2) } {
-            0 => Ok((found[0], found[1] as usize)),
-            number => Err(refusal(number)),
-        }
-    }
-
-    fn write(&self, bytes: &mut [u8], at: usize, numbers: &[u64]) -> Answer<usize> {
-        let mut found = [0];
-        let call = self.write;
-        let (room, len) = (bytes.len(), numbers.len());
-        let answer = unsafe {
-            let bytes = bytes.as_mut_ptr();
-            call(
-                bytes,
-                room,
-                at,
-                numbers.as_ptr(),
-                len,
-                found.as_mut_ptr(),
-                1,
-            )
-        };
-        match answer {
-            0 => Ok(found[0] as usize),
-            number => Err(refusal(number)),
-        }
-    }
-}
+/// What stands in a buffer before it is written to.
+const UNTOUCHED: u8 = 0xA5;
 
 /// Numbers around each border: of each bit length the least and the greatest one.
 fn borders() -> impl Iterator<Item = u64> {
@@ -137,41 +32,64 @@ pub fn of_any_length(rng: &mut Rng) -> u64 {
     }
 }
 
-/// Two sides that are asked the same, how often, and how often they differed.
+/// Two sides that are asked the same, and what came of it.
 struct Pair<'a> {
-    ours: &'a dyn Numbers,
-    theirs: &'a dyn Numbers,
+    ours: &'a dyn Side,
+    theirs: &'a dyn Side,
     reads: usize,
     writes: usize,
+    /// How often each refusal came.
+    refused: [usize; REFUSALS.len()],
     differences: usize,
 }
 
 impl<'a> Pair<'a> {
-    fn new(ours: &'a dyn Numbers, theirs: &'a dyn Numbers) -> Self {
+    fn new(ours: &'a dyn Side, theirs: &'a dyn Side) -> Self {
         Pair {
             ours,
             theirs,
             reads: 0,
             writes: 0,
+            refused: [0; REFUSALS.len()],
             differences: 0,
         }
     }
 
+    /// Counts a refusal, and a difference; prints the first one.
+    fn note<T: PartialEq + Debug>(
+        &mut self,
+        asked: impl Debug,
+        ours: Answer<T>,
+        theirs: Answer<T>,
+    ) {
+        for (refusal, count) in REFUSALS.iter().zip(&mut self.refused) {
+            *count += usize::from(theirs.as_ref().err() == Some(refusal));
+        }
+        if ours == theirs {
+            return;
+        }
+        if self.differences == 0 {
+            println!("{asked:?}: {ours:?}, model {theirs:?}");
+        }
+        self.differences += 1;
+    }
+
     fn read(&mut self, bytes: &[u8], at: usize) {
         self.reads += 1;
-        let same = self.ours.read(bytes, at) == self.theirs.read(bytes, at);
-        self.differences += usize::from(!same);
+        let (ours, theirs) = (self.ours.read(bytes, at), self.theirs.read(bytes, at));
+        self.note(("read", bytes, at), ours, theirs);
     }
 
     /// Both write to a buffer of this length, whose other bytes must stay, and read
     /// what stands there then.
     fn write(&mut self, len: usize, at: usize, numbers: &[u64]) {
-        let (mut ours, mut theirs) = (vec![0xA5; len], vec![0xA5; len]);
-        let answer = self.ours.write(&mut ours, at, numbers);
         self.writes += 1;
-        let same = answer == self.theirs.write(&mut theirs, at, numbers) && ours == theirs;
-        self.differences += usize::from(!same);
-        self.read(&ours, at);
+        let (mut here, mut there) = (vec![UNTOUCHED; len], vec![UNTOUCHED; len]);
+        let ours = self.ours.write(&mut here, at, numbers);
+        let theirs = self.theirs.write(&mut there, at, numbers);
+        self.note(("write", len, at, numbers), ours, theirs);
+        self.note(("bytes written", len, at, numbers), Ok(&here), Ok(&there));
+        self.read(&here, at);
     }
 
     /// Each number of `borders` to buffers of every length up to one that is longer
@@ -197,6 +115,16 @@ impl<'a> Pair<'a> {
             self.read(&bytes, rng.up_to(3) as usize);
         }
     }
+
+    fn compare(&mut self, nonsense: usize) {
+        self.write_borders();
+        self.try_nonsense(nonsense);
+    }
+
+    /// Whether nothing differed and every refusal came.
+    fn is_well(&self) -> bool {
+        self.differences == 0 && self.refused.iter().all(|&count| count > 0)
+    }
 }
 
 /// A byte that mostly has a group behind it.
@@ -209,96 +137,115 @@ fn any_byte(rng: &mut Rng) -> u8 {
     }
 }
 
+impl Display for Pair<'_> {
+    fn fmt(&self, f: &mut Formatter) -> fmt::Result {
+        write!(f, "{} reads and {} writes", self.reads, self.writes)?;
+        for (refusal, count) in REFUSALS.iter().zip(self.refused) {
+            match count {
+                0 => write!(f, ", {} NEVER CAME", refusal.number())?,
+                _ => write!(f, ", {count} times {}", refusal.number())?,
+            }
+        }
+        write!(f, ", {} differences", self.differences)
+    }
+}
+
 /// Compares the library at each path with the model, and times all of them. Gives
-/// whether nothing differed.
+/// whether all was well.
 pub fn run(paths: &[&str]) -> io::Result<bool> {
-    let libraries: Vec<Library> = paths
-        .iter()
-        .map(|path| Library::open(path))
-        .collect::<io::Result<_>>()?;
+    let opened = paths.iter().map(|path| Library::open(path));
+    let libraries = opened.collect::<io::Result<Vec<_>>>()?;
     let mut well = true;
     for (path, library) in paths.iter().zip(&libraries) {
         let mut pair = Pair::new(library, &Model);
-        pair.write_borders();
-        pair.try_nonsense(NONSENSE);
-        let Pair {
-            reads,
-            writes,
-            differences,
-            ..
-        } = pair;
-        println!("{path}: {reads} reads and {writes} writes, {differences} differ");
-        well &= differences == 0;
+        pair.compare(NONSENSE);
+        println!("{path}: {pair}");
+        well &= pair.is_well();
     }
-    bench_numbers::run(paths, &libraries);
-    Ok(well)
+    Ok(bench_numbers::run(paths, &libraries) && well)
 }
 
 #[cfg(test)]
 mod tests {
     use super::*;
+    use crate::model::Refusal;
+    use crate::number_sides::NumberRead;
 
-    fn differences(ours: &dyn Numbers) -> usize {
-        let mut pair = Pair::new(ours, &Model);
-        pair.write_borders();
-        pair.try_nonsense(1_000);
-        pair.differences
+    struct Made {
+        read: fn(&[u8], usize) -> NumberRead,
+        write: fn(&mut [u8], usize, &[u64]) -> Answer<usize>,
+    }
+
+    const RIGHT: Made = Made {
+        read: |bytes, at| Model.read(bytes, at),
+        write: |bytes, at, numbers| Model.write(bytes, at, numbers),
+    };
+
+    impl Side for Made {
+        fn read(&self, bytes: &[u8], at: usize) -> NumberRead {
+            (self.read)(bytes, at)
+        }
+
+        fn write(&self, bytes: &mut [u8], at: usize, numbers: &[u64]) -> Answer<usize> {
+            (self.write)(bytes, at, numbers)
+        }
     }
 
     /// Asks for (n + 7) / 7 bytes of room.
-    struct RoomByLongerFormula;
-
-    impl Numbers for RoomByLongerFormula {
-        fn read(&self, bytes: &[u8], at: usize) -> Answer<(u64, usize)> {
-            Model.read(bytes, at)
+    fn room_by_a_wrong_formula(bytes: &mut [u8], at: usize, numbers: &[u64]) -> Answer<usize> {
+        let bits = |number: &u64| 64 - number.leading_zeros() as usize;
+        let room: usize = numbers.iter().map(|number| (bits(number) + 7) / 7).sum();
+        if at.saturating_add(room) > bytes.len() {
+            return Err(Refusal::NoRoom);
         }
-
-        fn write(&self, bytes: &mut [u8], at: usize, numbers: &[u64]) -> Answer<usize> {
-            let bits = |number: &u64| 64 - number.leading_zeros() as usize;
-            let room: usize = numbers.iter().map(|number| (bits(number) + 7) / 7).sum();
-            if at.saturating_add(room) > bytes.len() {
-                return Err(Refusal::NoRoom);
-            }
-            Model.write(bytes, at, numbers)
-        }
+        Model.write(bytes, at, numbers)
     }
 
-    /// Changes the byte behind what it writes.
-    struct SpoilsAByte;
-
-    impl Numbers for SpoilsAByte {
-        fn read(&self, bytes: &[u8], at: usize) -> Answer<(u64, usize)> {
-            Model.read(bytes, at)
+    fn byte_behind_changed(bytes: &mut [u8], at: usize, numbers: &[u64]) -> Answer<usize> {
+        let end = Model.write(bytes, at, numbers)?;
+        if let Some(behind) = bytes.get_mut(end) {
+            *behind = 0;
         }
-
-        fn write(&self, bytes: &mut [u8], at: usize, numbers: &[u64]) -> Answer<usize> {
-            let end = Model.write(bytes, at, numbers)?;
-            if let Some(behind) = bytes.get_mut(end) {
-                *behind = 0;
-            }
-            Ok(end)
-        }
+        Ok(end)
     }
 
-    /// Gives 10 for a missing byte.
-    struct MissingIsBad;
+    fn missing_is_bad(bytes: &[u8], at: usize) -> NumberRead {
+        Model.read(bytes, at).map_err(|_| Refusal::BadNumber)
+    }
 
-    impl Numbers for MissingIsBad {
-        fn read(&self, bytes: &[u8], at: usize) -> Answer<(u64, usize)> {
-            Model.read(bytes, at).map_err(|_| Refusal::BadNumber)
-        }
-
-        fn write(&self, bytes: &mut [u8], at: usize, numbers: &[u64]) -> Answer<usize> {
-            Model.write(bytes, at, numbers)
-        }
+    fn compared(ours: &Made) -> Pair<'_> {
+        let mut pair = Pair::new(ours, &Model);
+        pair.compare(1_000);
+        pair
     }
 
     #[test]
     fn wrong_sides_are_told() {
-        assert_eq!(differences(&Model), 0);
-        let wrong: [&dyn Numbers; 3] = [&RoomByLongerFormula, &SpoilsAByte, &MissingIsBad];
-        for side in wrong {
-            assert!(differences(side) > 0);
+        assert_eq!(compared(&RIGHT).differences, 0);
+        let wrong = [
+            Made {
+                write: room_by_a_wrong_formula,
+                ..RIGHT
+            },
+            Made {
+                write: byte_behind_changed,
+                ..RIGHT
+            },
+            Made {
+                read: missing_is_bad,
+                ..RIGHT
+            },
+        ];
+        for side in &wrong {
+            assert!(compared(side).differences > 0);
         }
+    }
+
+    #[test]
+    fn a_refusal_that_never_came_is_told() {
+        assert!(compared(&RIGHT).is_well());
+        let mut borders = Pair::new(&RIGHT, &Model);
+        borders.write_borders();
+        assert!(!borders.is_well());
     }
 }
