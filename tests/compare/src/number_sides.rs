@@ -62,8 +62,8 @@ impl Library {
     pub fn open(path: &str) -> io::Result<Self> {
         let failed = || io::Error::other(format!("{path} isn't a library of numbers"));
         let name = CString::new(path)?;
-        // SAFETY: the name ends with 0. The library runs nothing when it is loaded,
-        // and stays open, as its calls are kept.
+        // SAFETY: the name ends with 0. A library of run_numbers runs nothing of its
+        // own when it is loaded, and it stays open, as its calls are kept.
         let library = unsafe { dlopen(name.as_ptr(), RTLD_NOW) };
         if library.is_null() {
             return Err(failed());

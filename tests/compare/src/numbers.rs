@@ -32,10 +32,9 @@ pub fn of_any_length(rng: &mut Rng) -> u64 {
     }
 }
 
-/// Two sides that are asked the same, and what came of it.
-struct Pair<'a> {
-    ours: &'a dyn Side,
-    theirs: &'a dyn Side,
+/// A side that is asked the same as the model, and what came of it.
+struct Compared<'a> {
+    side: &'a dyn Side,
     reads: usize,
     writes: usize,
     /// How often each refusal came.
@@ -43,11 +42,10 @@ struct Pair<'a> {
     differences: usize,
 }
 
-impl<'a> Pair<'a> {
-    fn new(ours: &'a dyn Side, theirs: &'a dyn Side) -> Self {
-        Pair {
-            ours,
-            theirs,
+impl<'a> Compared<'a> {
+    fn new(side: &'a dyn Side) -> Self {
+        Compared {
+            side,
             reads: 0,
             writes: 0,
             refused: [0; REFUSALS.len()],
@@ -55,29 +53,29 @@ impl<'a> Pair<'a> {
         }
     }
 
-    /// Counts a refusal, and a difference; prints the first one.
+    /// Counts the model's refusal and a difference, and prints the first difference.
     fn note<T: PartialEq + Debug>(
         &mut self,
         asked: impl Debug,
         ours: Answer<T>,
-        theirs: Answer<T>,
+        models: Answer<T>,
     ) {
         for (refusal, count) in REFUSALS.iter().zip(&mut self.refused) {
-            *count += usize::from(theirs.as_ref().err() == Some(refusal));
+            *count += usize::from(models.as_ref().err() == Some(refusal));
         }
-        if ours == theirs {
+        if ours == models {
             return;
         }
         if self.differences == 0 {
-            println!("{asked:?}: {ours:?}, model {theirs:?}");
+            println!("{asked:?}: {ours:?}, model {models:?}");
         }
         self.differences += 1;
     }
 
     fn read(&mut self, bytes: &[u8], at: usize) {
         self.reads += 1;
-        let (ours, theirs) = (self.ours.read(bytes, at), self.theirs.read(bytes, at));
-        self.note(("read", bytes, at), ours, theirs);
+        let (ours, models) = (self.side.read(bytes, at), Model.read(bytes, at));
+        self.note(("read", bytes, at), ours, models);
     }
 
     /// Both write to a buffer of this length, whose other bytes must stay, and read
@@ -85,9 +83,9 @@ impl<'a> Pair<'a> {
     fn write(&mut self, len: usize, at: usize, numbers: &[u64]) {
         self.writes += 1;
         let (mut here, mut there) = (vec![UNTOUCHED; len], vec![UNTOUCHED; len]);
-        let ours = self.ours.write(&mut here, at, numbers);
-        let theirs = self.theirs.write(&mut there, at, numbers);
-        self.note(("write", len, at, numbers), ours, theirs);
+        let ours = self.side.write(&mut here, at, numbers);
+        let models = Model.write(&mut there, at, numbers);
+        self.note(("write", len, at, numbers), ours, models);
         self.note(("bytes written", len, at, numbers), Ok(&here), Ok(&there));
         self.read(&here, at);
     }
@@ -137,7 +135,7 @@ fn any_byte(rng: &mut Rng) -> u8 {
     }
 }
 
-impl Display for Pair<'_> {
+impl Display for Compared<'_> {
     fn fmt(&self, f: &mut Formatter) -> fmt::Result {
         write!(f, "{} reads and {} writes", self.reads, self.writes)?;
         for (refusal, count) in REFUSALS.iter().zip(self.refused) {
@@ -150,19 +148,19 @@ impl Display for Pair<'_> {
     }
 }
 
-/// Compares the library at each path with the model, and times all of them. Gives
-/// whether all was well.
+/// Compares the library at each path with the model, and times all of them if all
+/// was well. Gives whether it was.
 pub fn run(paths: &[&str]) -> io::Result<bool> {
     let opened = paths.iter().map(|path| Library::open(path));
     let libraries = opened.collect::<io::Result<Vec<_>>>()?;
     let mut well = true;
     for (path, library) in paths.iter().zip(&libraries) {
-        let mut pair = Pair::new(library, &Model);
-        pair.compare(NONSENSE);
-        println!("{path}: {pair}");
-        well &= pair.is_well();
+        let mut compared = Compared::new(library);
+        compared.compare(NONSENSE);
+        println!("{path}: {compared}");
+        well &= compared.is_well();
     }
-    Ok(bench_numbers::run(paths, &libraries) && well)
+    Ok(well && bench_numbers::run(paths, &libraries))
 }
 
 #[cfg(test)]
@@ -201,6 +199,18 @@ mod tests {
         Model.write(bytes, at, numbers)
     }
 
+    fn end_too_far(bytes: &mut [u8], at: usize, numbers: &[u64]) -> Answer<usize> {
+        Model.write(bytes, at, numbers).map(|end| end + 1)
+    }
+
+    fn refused_and_written(bytes: &mut [u8], at: usize, numbers: &[u64]) -> Answer<usize> {
+        let answer = Model.write(bytes, at, numbers);
+        if let (Err(_), Some(first)) = (answer, bytes.first_mut()) {
+            *first = 0;
+        }
+        answer
+    }
+
     fn byte_behind_changed(bytes: &mut [u8], at: usize, numbers: &[u64]) -> Answer<usize> {
         let end = Model.write(bytes, at, numbers)?;
         if let Some(behind) = bytes.get_mut(end) {
@@ -213,38 +223,36 @@ mod tests {
         Model.read(bytes, at).map_err(|_| Refusal::BadNumber)
     }
 
-    fn compared(ours: &Made) -> Pair<'_> {
-        let mut pair = Pair::new(ours, &Model);
-        pair.compare(1_000);
-        pair
+    fn compared(side: &Made) -> Compared<'_> {
+        let mut compared = Compared::new(side);
+        compared.compare(1_000);
+        compared
     }
 
     #[test]
     fn wrong_sides_are_told() {
         assert_eq!(compared(&RIGHT).differences, 0);
-        let wrong = [
-            Made {
-                write: room_by_a_wrong_formula,
-                ..RIGHT
-            },
-            Made {
-                write: byte_behind_changed,
-                ..RIGHT
-            },
-            Made {
-                read: missing_is_bad,
-                ..RIGHT
-            },
+        let writes = [
+            room_by_a_wrong_formula,
+            end_too_far,
+            refused_and_written,
+            byte_behind_changed,
         ];
-        for side in &wrong {
-            assert!(compared(side).differences > 0);
+        for write in writes {
+            let side = Made { write, ..RIGHT };
+            assert!(compared(&side).differences > 0);
         }
+        let side = Made {
+            read: missing_is_bad,
+            ..RIGHT
+        };
+        assert!(compared(&side).differences > 0);
     }
 
     #[test]
     fn a_refusal_that_never_came_is_told() {
         assert!(compared(&RIGHT).is_well());
-        let mut borders = Pair::new(&RIGHT, &Model);
+        let mut borders = Compared::new(&RIGHT);
         borders.write_borders();
         assert!(!borders.is_well());
     }
