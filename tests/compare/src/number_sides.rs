@@ -41,7 +41,10 @@ impl Side for Model {
     }
 }
 
-type ReadCall = unsafe extern "C" fn(*const u8, usize, usize, *mut u64, usize) -> u32;
+/// Bytes, an offset, and a place each for the number and its end.
+type ReadCall =
+    unsafe extern "C" fn(*const u8, usize, usize, *mut u64, usize, *mut u64, usize) -> u32;
+/// Bytes, an offset, the numbers, and a place for their end.
 type WriteCall =
     unsafe extern "C" fn(*mut u8, usize, usize, *const u64, usize, *mut u64, usize) -> u32;
 
@@ -90,26 +93,27 @@ fn refusal(number: u32) -> Refusal {
 }
 
 impl Side for Library {
+    /// Number and end have a place of their own: as one pair they would be taken
+    /// out at once, which waits for both.
     fn read(&self, bytes: &[u8], at: usize) -> NumberRead {
-        let mut found = [0; 2];
+        let (mut number, mut end) = (0, 0);
         let (call, len) = (self.read, bytes.len());
-        // SAFETY: pointers and lengths are those of slices lent for the call, and
-        // `found` has the two places that it requires.
-        match unsafe { call(bytes.as_ptr(), len, at, found.as_mut_ptr(), 2) } {
-            0 => Ok((found[0], found[1] as usize)),
-            number => Err(refusal(number)),
+        // SAFETY: pointers and lengths are those of slices and places lent for the
+        // call, which requires one place for each.
+        match unsafe { call(bytes.as_ptr(), len, at, &mut number, 1, &mut end, 1) } {
+            0 => Ok((number, end as usize)),
+            refused => Err(refusal(refused)),
         }
     }
 
     fn write(&self, bytes: &mut [u8], at: usize, numbers: &[u64]) -> Answer<usize> {
-        let mut found = [0];
+        let mut end = 0;
         let (call, len, count) = (self.write, bytes.len(), numbers.len());
         let (bytes, numbers) = (bytes.as_mut_ptr(), numbers.as_ptr());
-        // SAFETY: as in `read`; `found` has the one place that it requires.
-        let answer = unsafe { call(bytes, len, at, numbers, count, found.as_mut_ptr(), 1) };
-        match answer {
-            0 => Ok(found[0] as usize),
-            number => Err(refusal(number)),
+        // SAFETY: as in `read`.
+        match unsafe { call(bytes, len, at, numbers, count, &mut end, 1) } {
+            0 => Ok(end as usize),
+            refused => Err(refusal(refused)),
         }
     }
 }
