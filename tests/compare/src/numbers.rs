@@ -2,7 +2,7 @@
 //! the model.
 
 use crate::bench_numbers;
-use crate::model::LONGEST_NUMBER;
+use crate::model::{write_number, Refusal, LONGEST_NUMBER};
 use crate::number_sides::{Answer, Library, Model, Side, REFUSALS};
 use crate::rng::Rng;
 use std::fmt::{self, Debug, Display, Formatter};
@@ -30,6 +30,20 @@ pub fn of_any_length(rng: &mut Rng) -> u64 {
         0 => 0,
         bits => (rng.next() | 1 << 63) >> (64 - bits),
     }
+}
+
+/// "13 if it doesn't fit the lent buffer from there", by the bytes that the model
+/// writes and not by its formula, which is the code's too.
+fn write_by_bytes(bytes: &mut [u8], at: usize, numbers: &[u64]) -> Answer<usize> {
+    let mut written = [0; MOST_NUMBERS * LONGEST_NUMBER];
+    let write = |end, &number| write_number(&mut written, end, number);
+    let count = numbers.iter().fold(0, write);
+    let rest = bytes.get_mut(at..);
+    let place = rest.and_then(|rest| rest.get_mut(..count));
+    place
+        .ok_or(Refusal::NoRoom)?
+        .copy_from_slice(&written[..count]);
+    Ok(at + count)
 }
 
 /// A side that is asked the same as the model, and what came of it.
@@ -84,7 +98,7 @@ impl<'a> Compared<'a> {
         self.writes += 1;
         let (mut here, mut there) = (vec![UNTOUCHED; len], vec![UNTOUCHED; len]);
         let ours = self.side.write(&mut here, at, numbers);
-        let models = Model.write(&mut there, at, numbers);
+        let models = write_by_bytes(&mut there, at, numbers);
         self.note(("write", len, at, numbers), ours, models);
         self.note(("bytes written", len, at, numbers), Ok(&here), Ok(&there));
         self.read(&here, at);
@@ -166,7 +180,6 @@ pub fn run(paths: &[&str]) -> io::Result<bool> {
 #[cfg(test)]
 mod tests {
     use super::*;
-    use crate::model::Refusal;
     use crate::number_sides::NumberRead;
 
     struct Made {

@@ -88,6 +88,18 @@ pub struct Entry {
 }
 
 impl Entry {
+    fn of([id, mark, price, shares, show, life, slide]: [u32; 7]) -> Self {
+        Entry {
+            id,
+            mark,
+            price,
+            shares,
+            show,
+            life,
+            slide,
+        }
+    }
+
     pub fn is_market(&self) -> bool {
         self.question().is_market()
     }
@@ -163,17 +175,8 @@ impl Event {
 pub fn read_record(bytes: &[u8], at: usize) -> Result<(Event, usize), Refusal> {
     let (kind, at) = read_number(bytes, at)?;
     if kind == 1 {
-        let ([id, mark, price, shares, show, life, slide], end) = read_fields(bytes, at)?;
-        let entry = Entry {
-            id,
-            mark,
-            price,
-            shares,
-            show,
-            life,
-            slide,
-        };
-        return Ok((Event::Entry(entry), end));
+        let (fields, end) = read_fields(bytes, at)?;
+        return Ok((Event::Entry(Entry::of(fields)), end));
     }
     let of_field = match kind {
         2 => |id| Event::Cancel { id },
@@ -443,16 +446,8 @@ mod tests {
         assert_eq!(read_record(&bytes, 2), Ok((event, 2 + count)));
     }
 
-    fn entry([id, mark, price, shares, show, life, slide]: [u32; 7]) -> Event {
-        Event::Entry(Entry {
-            id,
-            mark,
-            price,
-            shares,
-            show,
-            life,
-            slide,
-        })
+    fn entry(fields: [u32; 7]) -> Event {
+        Event::Entry(Entry::of(fields))
     }
 
     /// The least and the greatest fields of 1 to 5 bytes. The writer doesn't judge
