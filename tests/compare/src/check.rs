@@ -303,7 +303,8 @@ fn check_stamps(
     ensure(last - before.last_stamp <= most, "stamps of one event")
 }
 
-/// A host's watch follows the venue's phase through a tape price.
+/// A host's watch follows the venue's phase through a tape price. No. 6: "The watch
+/// follows the same rule."
 fn check_watch(before: &Venue, price: u32) -> Result<(), Fault> {
     let mut watch = Watch {
         close: before.close,
@@ -312,7 +313,7 @@ fn check_watch(before: &Venue, price: u32) -> Result<(), Fault> {
     let answer = watch_tape(&mut watch, before.step, price);
     let triggers = u64::from(price) * 10 <= u64::from(before.close) * 9;
     let phase = match before.phase {
-        0 if answer.is_ok() && triggers => 1,
+        0 | 2 if answer.is_ok() && triggers => 1,
         phase => phase,
     };
     ensure(

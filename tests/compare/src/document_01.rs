@@ -57,9 +57,12 @@ pub fn check(
     reports.try_for_each(|report| check_price(before, event, after, report))
 }
 
+/// "In phase 0 a tape price p with 10 × p ≤ 9 × close makes phase 1." No. 6: "In
+/// phase 2 a tape price that meets the trigger gives phase 1".
 fn check_trigger(before: &Venue, event: &Event, after: &Venue) -> Result<(), Fault> {
     let phase = match *event {
         Event::Tape { price } if before.phase == 0 => triggers(before.close, price).into(),
+        Event::Tape { price } if before.phase == 2 && triggers(before.close, price) => 1,
         Event::DayEnd { .. } => return Ok(()),
         _ => before.phase,
     };

@@ -1,4 +1,4 @@
-//! A second implementation of the venue of document 01 and of No. 1 to No. 5 of
+//! A second implementation of the venue of document 01 and of No. 1 to No. 6 of
 //! document 02, and its comparison with the proved engine. See README.md.
 
 mod account;

@@ -192,7 +192,7 @@ fn a_market_short_that_traded_is_still_one() {
 }
 
 /// In phase 2 too. On its morning there is no bid, so a market short trades
-/// down to 1 and doesn't rest (E5).
+/// down to 1 and doesn't rest (E5). The fall to 700 starts a new period (No. 6).
 #[test]
 fn a_market_short_on_the_second_day() {
     assert_restricted_day(&[
@@ -203,10 +203,11 @@ fn a_market_short_on_the_second_day() {
         ("bid 600", &[]),
         ("entry 4 2 0 4 1 0 0", &["1 4 4 601"]),
         ("bid 0", &[]),
-        ("tape 700", &[]),
+        ("tape 700", &["5"]),
         ("bid 599", &["4 4 600 5"]),
         ("bid 1", &["4 4 2 6", "2 2 4 500 4"]),
-        ("end 100000", &["3 2 2 4", "6 0"]),
+        ("end 100000", &["3 2 2 4", "6 2"]),
+        ("end 100000", &["6 0"]),
         ("bid 600", &[]),
         ("entry 5 2 0 4 1 0 0", &["1 5 7 1", "3 5 4 2"]),
     ]);

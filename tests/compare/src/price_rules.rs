@@ -105,7 +105,8 @@ fn check_watch(step: u32, before: Watch, price: u32, counts: &mut Counts) -> Res
     let mut watch = before;
     let found = watch_tape(&mut watch, step, price);
     let answer = answer_of(step, is_legal(step, price));
-    let triggers = before.phase == 0 && document_01::triggers(before.close, price);
+    let may_turn = matches!(before.phase, 0 | 2);
+    let triggers = may_turn && document_01::triggers(before.close, price);
     let mut expected = before;
     if answer.is_ok() && triggers {
         expected.phase = 1;

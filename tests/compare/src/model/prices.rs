@@ -51,13 +51,19 @@ pub fn permitted_price(step: u32, bid: u32) -> Result<u32, Refusal> {
     }
 }
 
-/// "In phase 0 a tape price p with 10 × p ≤ 9 × close makes phase 1. In phases
-/// 1 and 2 a tape price leaves the phase alone."
+/// The trigger: "a tape price p with 10 × p ≤ 9 × close".
+fn triggers(close: u32, price: u32) -> bool {
+    10 * u64::from(price) <= 9 * u64::from(close)
+}
+
+/// "In phase 0 a tape price p with 10 × p ≤ 9 × close makes phase 1." No. 6: "In
+/// phase 2 a tape price that meets the trigger gives phase 1 and report 5. In
+/// phase 1 it still leaves the phase alone, without report 5." The close is that
+/// of the last day end (F6.1).
 pub fn phase_after_tape(phase: u32, close: u32, price: u32) -> u32 {
-    if phase == 0 && 10 * u64::from(price) <= 9 * u64::from(close) {
-        1
-    } else {
-        phase
+    match phase {
+        0 | 2 if triggers(close, price) => 1,
+        _ => phase,
     }
 }
 
@@ -80,8 +86,9 @@ pub struct Watch {
 }
 
 /// "a tape price updates the host's own watch record (close, phase) by the
-/// phase-0 rule, for any close; 3 if the price isn't legal." Any other phase is
-/// left alone (B4). 17 comes before 3, and the close isn't judged at any step.
+/// phase-0 rule, for any close; 3 if the price isn't legal." No. 6: "The watch
+/// follows the same rule." A phase other than 0 and 2 is left alone (B4). 17 comes
+/// before 3, and the close isn't judged at any step.
 pub fn watch_tape(watch: &mut Watch, step: u32, price: u32) -> Result<(), Refusal> {
     if !is_step(step) {
         return Err(Refusal::Step);
@@ -228,7 +235,8 @@ mod tests {
             ((u32::MAX, 0), HIGHEST, Ok(()), 1),
             ((0, 0), 1, Ok(()), 0),
             ((100_000, 1), 1, Ok(()), 1),
-            ((100_000, 2), 1, Ok(()), 2),
+            ((100_000, 2), 1, Ok(()), 1),
+            ((100_000, 2), 90_100, Ok(()), 2),
             ((100_000, 7), 1, Ok(()), 7),
             ((100_025, 0), 90_000, Ok(()), 1),
             ((100_000, 0), 0, Err(Refusal::Price), 0),

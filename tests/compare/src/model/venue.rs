@@ -323,7 +323,7 @@ impl Venue {
     }
 
     /// The tape price's own work, before the pass: "5 restriction on, before
-    /// the pass" when it changes the phase (B3).
+    /// the pass" when it changes the phase, from 0 or, No. 6, from 2 to 1 (B3).
     fn print(&mut self, price: u32, reports: &mut ReportWriter) {
         let phase = phase_after_tape(self.phase, self.close, price);
         if phase != self.phase {
@@ -543,8 +543,8 @@ mod tests {
             let before = venue.orders.clone();
             assert_eq!(apply(&mut venue, Event::Bid { price: 0 }), Ok(vec![]));
             let on = match venue.phase {
-                0 => vec![Report::RestrictionOn],
-                _ => vec![],
+                1 => vec![],
+                _ => vec![Report::RestrictionOn],
             };
             assert_eq!(apply(&mut venue, Event::Tape { price: 90_000 }), Ok(on));
             assert_eq!(venue.orders, before);
