@@ -3,3 +3,4 @@ pub mod PriceLaws
 pub mod RestrictionLaws
 pub mod Returned
 pub mod HalfCentLaws
+pub mod FallingAgainLaws

@@ -1,4 +1,4 @@
--- The host's own watch of a close: document 01, "Watch", and document 02, No. 2. Assumes nothing.
+-- The host's own watch of a close: document 01, "Watch", and document 02, No. 2 and No. 6. Assumes nothing.
 use Prim.Native.Nat.{ℕ}
 use mathlib.Core.Bool.{_&&_}
 use Rattle.numbers.specs.Tests.{pick}
@@ -14,7 +14,7 @@ unfoldable pub watchedPhase : ℕ → ℕ → ℕ → ℕ → ℕ
 watchedPhase step close phase p = pick (isStep step && legal step p) (phaseAfterTape close phase p) phase
 
 -- "a tape price updates the host's own watch record (close, phase) by the phase-0 rule, for any close"
--- No. 2: "The C call and the watch take the step with each call"
+-- No. 2: "The C call and the watch take the step with each call"; No. 6: "The watch follows the same rule"
 unfoldable pub watched : ℕ → Watch → ℕ → Watch
 watched step w p = record { close = w .close; phase = watchedPhase step (w .close) (w .phase) p }
 

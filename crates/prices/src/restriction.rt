@@ -3,7 +3,7 @@ use crate::Watch;
 use crate::WatchAnswer;
 use crate::increments;
 ghost use mathlib.Core.Path.{_≡_};
-ghost use Rattle.prices.specs.Restriction.{phaseAfterTape, phaseAfterDayEnd, restrictionOn};
+ghost use Rattle.prices.specs.Restriction.{mayStart, phaseAfterTape, phaseAfterDayEnd, restrictionOn};
 ghost use Rattle.prices.specs.Watch.{watchedPhase, watched, watchOutcome, outcomeOfWatch};
 
 // Whether a tape price is 10% or more below the close. The products take 64 bits.
@@ -13,10 +13,20 @@ fn triggers(close: u32, price: u32) -> bool
     10 * (price as u64) <= 9 * (close as u64)
 }
 
+// Whether a fall starts a period in a phase: off, or on since yesterday.
+fn may_start(phase: u32) -> bool
+    ensures { λ r. ⌜ r ≡ mayStart phase ⌝ }
+{
+    match phase {
+        0 | 2 => true,
+        _ => false,
+    }
+}
+
 pub fn phase_after_tape(close: u32, phase: u32, price: u32) -> u32
     ensures { λ r. ⌜ r ≡ phaseAfterTape close phase price ⌝ }
 {
-    if phase == 0 {
+    if may_start(phase) {
         if triggers(close, price) {
             return 1;
         }
