@@ -3,3 +3,4 @@ pub mod MarketOrderLaws
 pub mod HalfCentLaws
 pub mod WhichCodeLaws
 pub mod FillLaws
+pub mod FallingAgainLaws

@@ -9,3 +9,4 @@ pub mod MarketOrders
 pub mod HalfCents
 pub mod WhichCode
 pub mod Fill
+pub mod FallingAgain

@@ -82,15 +82,25 @@ buffer-reads : (e : Event) (b : List ℕ) (x : Outcome (List Report)) → Readab
 buffer-reads e b (gives rs) h = ap (withReports e) (bytes-read b rs h)
 buffer-reads e b (refuses k) h = refl
 
+-- a call that is accepted was made on words laid out as a venue, and no refusal met it
+pub accepted-call : {w w′ b b′ : List ℕ} {e : Event} {count : ℕ} → Applied w e b (gives count) w′ b′ → T (isBook w) × (refusal (venueOf w) e (length b) ≡ nothing)
+unfolding stepIn step stepUnless pick
+accepted-call {w} {b = b} {e = e} {count = count} a = go (isBook w) (refusal (venueOf w) e (length b)) refl refl (a .answers)
+  where
+    go : (t : Bool) (x : Option ℕ) → isBook w ≡ t → refusal (venueOf w) e (length b) ≡ x → gives count ≡ countOf ((pick t (stepUnless x (venueOf w) e) (record { answer = refuses 16; venue = venueOf w })) .answer) → T (isBook w) × (refusal (venueOf w) e (length b) ≡ nothing)
+    go true nothing q r z = (rw q tt, r)
+    go true (some n) q r z = let y : _≡_ {A = ℕ} 0 1 = cc in absurd (omega arith)
+    go false x q r z = let y : _≡_ {A = ℕ} 0 1 = cc in absurd (omega arith)
+
 -- a chain is a run
 
-abbrev callOf : AppliedCall → Call
+abbrev pub callOf : AppliedCall → Call
 callOf c = record { event = c.event; buffer = length (c .lent) }
 
-record IsRun (cs : List AppliedCall) (w′ : List ℕ) (r : Run) : Type 0 where
-  layout : T (isBook w′)
-  venue : venueOf w′ ≡ r.venue
-  readable : map answeredOf cs ≡ map some (r .answered)
+pub record IsRun (cs : List AppliedCall) (w′ : List ℕ) (r : Run) : Type 0 where
+  pub layout : T (isBook w′)
+  pub venue : venueOf w′ ≡ r.venue
+  pub readable : map answeredOf cs ≡ map some (r .answered)
 
 chain-run : {w w′ : List ℕ} {cs : List AppliedCall} → T (isBook w) → Word (venueOf w .lastId) → Chain w cs w′ → IsRun cs w′ (run (venueOf w) (map callOf cs))
 unfolding run
@@ -118,7 +128,7 @@ applied-not-16 {w} {b = b} {e = e} t a z =
 
 -- from words that mean a fresh venue
 module _ (s close : ℕ) (i : T (isStep s)) (t : T (legal s close)) {w₀ : List ℕ} (u : T (isBook w₀)) (f : venueOf w₀ ≡ opened s close) where
-  fresh-run : {cs : List AppliedCall} {w : List ℕ} → Chain w₀ cs w → IsRun cs w (run (opened s close) (map callOf cs))
+  pub fresh-run : {cs : List AppliedCall} {w : List ℕ} → Chain w₀ cs w → IsRun cs w (run (opened s close) (map callOf cs))
   unfolding opened
   fresh-run {cs} {w} c = subst (λ (v : Venue). IsRun cs w (run v (map callOf cs))) f (chain-run u (rw f (omega arith)) c)
 

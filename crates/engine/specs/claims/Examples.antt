@@ -1,4 +1,4 @@
--- Document 01, "Twelve sums, and one day", a day of market orders, one at a step of 50, entries with bad codes and questions whether an entry would fill, as statements about the definitions. Assumes nothing.
+-- Document 01, "Twelve sums, and one day", a day of market orders, one at a step of 50, days of falls, entries with bad codes and questions whether an entry would fill, as statements about the definitions. Assumes nothing.
 use Prim.Native.Nat.{ℕ}
 use mathlib.Core.Path.{_≡_}
 use mathlib.Core.Bool.{Bool, true, false, not}
@@ -126,7 +126,25 @@ halfCentAnswers =
     ∷ refuses 3
     ∷ []
 
--- the one day, for each of "Slides gone wrong" events and what the last of them reports, market orders, and half cents
+-- days of falls (No. 6), and the reports of each event: a fall on the carried day starts a new period, one on the same day doesn't, and a day without one ends it
+abbrev pub fallingEvents : List Event
+fallingEvents =
+    tape 90_000 ∷ tape 80_000 ∷ dayEnd 100_000 ∷ tape 90_100 ∷ tape 90_000 ∷ tape 90_000 ∷ dayEnd 90_000 ∷ dayEnd 90_000 ∷ tape 81_000 ∷ []
+
+abbrev pub fallingReports : List (List Report)
+fallingReports =
+    (restrictionStarts ∷ []) ∷ [] ∷ (dayEnded 2 ∷ []) ∷ [] ∷ (restrictionStarts ∷ []) ∷ [] ∷ (dayEnded 2 ∷ []) ∷ (dayEnded 0 ∷ []) ∷ (restrictionStarts ∷ []) ∷ []
+
+-- a short that rests while the price falls again
+abbrev pub fallingWithOrder : List Event
+fallingWithOrder =
+    tape 90_000 ∷ dayEnd 90_000 ∷ bid 80_000 ∷ entryOf 1 2 80_000 5 1 0 0 ∷ tape 81_000 ∷ tape 70_000 ∷ dayEnd 81_000 ∷ []
+
+abbrev pub orderReports : List (List Report)
+orderReports =
+    (restrictionStarts ∷ []) ∷ (dayEnded 2 ∷ []) ∷ [] ∷ (accepted 1 1 80_100 ∷ []) ∷ (restrictionStarts ∷ []) ∷ [] ∷ (cancelled 1 5 4 ∷ dayEnded 2 ∷ []) ∷ []
+
+-- the one day, for each of "Slides gone wrong" events and what the last of them reports, market orders, half cents, and falls at both steps
 pub record Played : Type 0 where
   pub theDay : answersTo dayEvents ≡ map gives dayReports
   -- "Re-pricing a clear displayed order when the bid rises over it. It stays and may trade there."
@@ -149,6 +167,8 @@ pub record Played : Type 0 where
   -- with no bid an order with slide once isn't used up: it goes to its entry bid when a bid comes back
   pub onceKept : lastAnswerTo (restrictedDay (entryOf 1 2 0 5 1 0 1 ∷ bid 0 ∷ bid 90_500 ∷ [])) ≡ gives (repriced 1 91_000 2 ∷ [])
   pub halfCentDay : answersAt 50 halfCentEvents ≡ halfCentAnswers
+  pub fallingDays : All (λ (s : ℕ). answersAt s fallingEvents ≡ map gives fallingReports) (100 ∷ 50 ∷ [])
+  pub fallingWithOrder : answersTo fallingWithOrder ≡ map gives orderReports
 
 -- entries with one or more bad fields (No. 3), and the refusal of the one that is looked for first: codes (mark, show, life, slide); an id alone and beside a
 -- code; a price and shares beside one

@@ -1,0 +1,326 @@
+-- No. 6: what a tape price does in each phase, that the phase and the reports 5 and 6 follow from the falls alone, and that a slump is restricted every day.
+-- Assumes nothing.
+use Prim.Native.Nat.{ℕ, _+_, _*_, _≤_, _<_}
+use native.Mathlib.Omega.{arith}
+use mathlib.Core.Path.{_≡_, refl, sym, ap, _∙_, subst}
+use mathlib.Core.Bool.{Bool, true, false, not, _&&_, _||_, or-true, or-false}
+use mathlib.Core.Logic.{_⊎_, inl, inr}
+use mathlib.Core.Option.{Option, none, some}
+use mathlib.Core.List.{List, [], _∷_, _++_, map, append-nil}
+use lib.Dec.{T}
+use lib.ListN.{length}
+use borrow.Author.Tests.{le-leb, lt-ltb}
+use Rattle.numbers.specs.Tests.{pick}
+use Rattle.numbers.specs.Answers.{gives}
+use Rattle.numbers.specs.SevenBit.{bytesOfAll, overwrite}
+use Rattle.numbers.proofs.TestLaws.{by-test, T-true}
+use Rattle.numbers.proofs.ByteLaws.{bytes-last}
+use Rattle.prices.specs.Prices.{isStep, legal}
+use Rattle.prices.specs.Restriction.{triggers, phaseAfterTape, phaseAfterDayEnd, restrictionOn}
+use Rattle.prices.proofs.PriceLaws.{no-bid}
+use Rattle.prices.proofs.FallingAgainLaws.{same-day-stays, no-fall-stays, falls, day-ends, falling-again}
+use Rattle.book.specs.declared.Order.{Order}
+use Rattle.book.specs.rules.Orders.{find}
+use Rattle.book.specs.rules.Matching.{Execution, matching}
+use Rattle.book.specs.rules.Words.{isBook}
+use Rattle.engine.specs.declared.Market.{Market}
+use Rattle.engine.specs.declared.Event.{Event}
+use Rattle.engine.specs.declared.Event.the-variants.{Entry as entry, Cancel as cancel, Bid as bid, Tape as tape, DayEnd as dayEnd}
+use Rattle.engine.specs.declared.Remainder.{Remainder}
+use Rattle.engine.specs.declared.Remainder.the-variants.{Filled, Cancelled, Rests}
+use Rattle.engine.specs.declared.Move.{Move}
+use Rattle.engine.specs.declared.Move.the-variants.{Stay, Cancel, Reprice}
+use Rattle.engine.specs.rules.Market.{marketAfter, restricted, permittedNow}
+use Rattle.engine.specs.rules.Reports.{Report, accepted, executed, cancelled, repriced, restrictionStarts, dayEnded}
+use Rattle.engine.specs.rules.Working.{remainder, afterRemainder, work}
+use Rattle.engine.specs.rules.Pass.{slideOnce, slideDown, maySlide, moveOf, afterMove, passOne, passOver}
+use Rattle.engine.specs.rules.Venue.{Venue, opened, opening, entering, effectOfEntry, effectOfCancel, thePass, restrictionReport, cancelledAtEnd, effectOfDayEnd, effectOf, venueAfter}
+use Rattle.engine.specs.rules.Sound.{mostEvents, sound}
+use Rattle.engine.specs.rules.Refusals.{refuseUnless, refusalOfKind, leastBuffer, refusal}
+use Rattle.engine.specs.rules.Run.{Step, stepUnless, step, Call, Run, run}
+use Rattle.engine.specs.rules.Records.{reportBytes, reportsBytes}
+use Rattle.engine.specs.rules.Answers.{bufferAfter}
+use Rattle.engine.specs.rules.Layout.{venueOf, stepIn}
+use Rattle.engine.specs.claims.Calls.{Applied, AppliedCall, Chain}
+use Rattle.engine.specs.claims.FallingAgain.{inPhase, tapeStep, TapeTable, TapeEvents, TapeLeaves, TapeCallTable, TapeCalls, PassAsBefore, Falls, noFalls, fallsAfter, fallsAnswered, fallsFrom, phaseBy, phaseReportsDue, phaseReports, ReportsPhase, AllReportPhase, RestrictedByFalls, CallsByFalls, RestrictedByFallsInCalls, SlumpDay, slumpEvents, Slump, PhaseTold, phasesTold, restrictedEachDay, SlumpRestricted}
+use Rattle.engine.proofs.refinement.StepLaws.{reports-append}
+use Rattle.engine.proofs.refinement.QuoteLaws.{restriction-same, restriction-new}
+use Rattle.engine.proofs.refinement.OpeningLaws.{opening-known, opening-gives, opened-book, opened-venue, step-in}
+use Rattle.engine.proofs.demand3.SoundLaws.{sound-venue}
+use Rattle.engine.proofs.demand3.ReachedLaws.{step-sound}
+use Rattle.engine.proofs.demand3.CallLaws.{accepted-call, callOf, IsRun, fresh-run}
+
+-- one tape event
+
+module _ (v : Venue) (p n : ℕ) (h : refusal v (tape p) n ≡ none) where
+  abbrev after : ℕ
+  after = phaseAfterTape (v.market.close) (v.market.phase) p
+
+  reported : step v (tape p) n ≡ tapeStep (restrictionReport (v .market) (inPhase after (v .market))) after v
+  unfolding step stepUnless effectOf
+  reported = rw h
+
+  changed : (v.market.phase ≡ 1 → ⊥) → after ≡ 1 → step v (tape p) n ≡ tapeStep (restrictionStarts ∷ []) 1 v
+  changed d e =
+      reported ∙ ap (λ (k : ℕ). tapeStep (restrictionReport (v .market) (inPhase k (v .market))) k v) e ∙ ap (λ (rs : List Report). tapeStep rs 1 v) (restriction-new (v .market) (inPhase 1 (v .market)) d)
+
+  unchanged : after ≡ v.market.phase → step v (tape p) n ≡ tapeStep [] (v.market.phase) v
+  unchanged e =
+      reported ∙ ap (λ (k : ℕ). tapeStep (restrictionReport (v .market) (inPhase k (v .market))) k v) e ∙ ap (λ (rs : List Report). tapeStep rs (v.market.phase) v) (restriction-same (v .market) (inPhase (v.market.phase) (v .market)) refl)
+
+  tape-table : TapeTable v p n
+  tape-table =
+      record {
+        starts = λ e t. changed (λ z. omega arith) (falls (v.market.close) (v.market.phase) p (omega arith) t);
+        fallsAgain = λ e t. changed (λ z. omega arith) (falls (v.market.close) (v.market.phase) p (omega arith) t);
+        sameDayStays = λ e. unchanged (rw e (same-day-stays (v.market.close) p)) ∙ ap (λ (k : ℕ). tapeStep [] k v) e;
+        noFallStays = λ t. unchanged (no-fall-stays (v.market.close) (v.market.phase) p t);
+      }
+
+pub tape-events : TapeEvents
+tape-events = tape-table
+
+-- the same of a call
+
+start-bytes : reportsBytes (restrictionStarts ∷ []) ≡ 5 ∷ []
+unfolding reportsBytes reportBytes bytesOfAll
+start-bytes = rw (bytes-last 5 (omega arith))
+
+no-bytes : reportsBytes [] ≡ []
+unfolding reportsBytes
+no-bytes = refl
+
+module _ {w w′ b b′ : List ℕ} {p count : ℕ} (a : Applied w (tape p) b (gives count) w′ b′) where
+  abbrev known : TapeTable (venueOf w) p (length b)
+  known = tape-events (venueOf w) p (length b) (accepted-call a .1)
+
+  leaves : (first : List Report) {k : ℕ} {bytes : List ℕ} → reportsBytes first ≡ bytes → step (venueOf w) (tape p) (length b) ≡ tapeStep first k (venueOf w) → TapeLeaves bytes k w b w′ b′
+  unfolding venueOf
+  leaves first {k} r s =
+      let e : stepIn w (tape p) (length b) ≡ tapeStep first k (venueOf w) = step-in w (tape p) (length b) (accepted-call a .0) ∙ s in
+      record {
+        phase = ap (λ (v : Venue). v.market.phase) (a .venue ∙ ap (λ (x : Step). x .venue) e);
+        bytes = a .buffer ∙ ap (λ (x : Step). bufferAfter b (x .answer)) e ∙ ap (overwrite b 0) (rw (← r) (reports-append first _));
+      }
+
+  tape-call-table : TapeCallTable p w b w′ b′
+  unfolding venueOf
+  tape-call-table =
+      record {
+        starts = λ e t. leaves (restrictionStarts ∷ []) start-bytes (known .starts e t);
+        fallsAgain = λ e t. leaves (restrictionStarts ∷ []) start-bytes (known .fallsAgain e t);
+        sameDayStays = λ e. leaves [] no-bytes (known .sameDayStays e);
+        noFallStays = λ t. leaves [] no-bytes (known .noFallStays t);
+      }
+
+pub tape-calls : TapeCalls
+tape-calls w p b count w′ b′ a = tape-call-table a
+
+-- phases that are on or off alike have the same pass
+
+module _ (m : Market) (j k : ℕ) (h : restrictionOn j ≡ restrictionOn k) where
+  same-turn : (x : Option Order) (os : List Order) (s : ℕ) → passOne (inPhase j m) x os s ≡ passOne (inPhase k m) x os s
+  unfolding passOne moveOf slideDown slideOnce maySlide restricted permittedNow
+  same-turn none os s = refl
+  same-turn (some o) os s = rw h
+
+  same-pass : (is : List ℕ) (os : List Order) (s : ℕ) → passOver (inPhase j m) is os s ≡ passOver (inPhase k m) is os s
+  unfolding passOver
+  same-pass [] os s = refl
+  same-pass (i ∷ is) os s = rw (same-turn (find i os) os s, same-pass is)
+
+pub pass-as-before : PassAsBefore
+unfolding thePass
+pass-as-before v p =
+    same-pass (v .market) _ _ (falling-again .venue (v.market.close) p .onAsBefore (v.market.phase)) _ (v .orders) (v .lastStamp)
+
+-- which events report 5 and 6
+
+phase-append : (xs ys : List Report) → phaseReports (xs ++ ys) ≡ phaseReports xs ++ phaseReports ys
+phase-append [] ys = refl
+phase-append (accepted i s p ∷ xs) ys = phase-append xs ys
+phase-append (executed x ∷ xs) ys = phase-append xs ys
+phase-append (cancelled i q z ∷ xs) ys = phase-append xs ys
+phase-append (repriced i p s ∷ xs) ys = phase-append xs ys
+phase-append (restrictionStarts ∷ xs) ys = ap (λ (rs : List Report). restrictionStarts ∷ rs) (phase-append xs ys)
+phase-append (dayEnded k ∷ xs) ys = ap (λ (rs : List Report). dayEnded k ∷ rs) (phase-append xs ys)
+
+executions-none : (xs : List Execution) → phaseReports (map executed xs) ≡ []
+executions-none [] = refl
+executions-none (x ∷ xs) = executions-none xs
+
+remainder-none : (r : Remainder) (o : Order) (os : List Order) → phaseReports ((afterRemainder r o os) .reports) ≡ []
+unfolding afterRemainder
+remainder-none Filled o os = refl
+remainder-none (Cancelled cause) o os = refl
+remainder-none Rests o os = refl
+
+work-none : (o : Order) (os : List Order) → phaseReports ((work o os) .reports) ≡ []
+unfolding work
+work-none o os =
+    phase-append (map executed (matching o os .executions)) _ ∙ rw (executions-none (matching o os .executions)) (remainder-none (remainder (matching o os .left)) (matching o os .left) (matching o os .orders))
+
+move-none : (y : Move) (o : Order) (os : List Order) (s : ℕ) → phaseReports ((afterMove y o os s) .reports) ≡ []
+unfolding afterMove
+move-none Stay o os s = refl
+move-none Cancel o os s = refl
+move-none (Reprice p used) o os s = work-none _ _
+
+turn-none : (m : Market) (x : Option Order) (os : List Order) (s : ℕ) → phaseReports ((passOne m x os s) .reports) ≡ []
+unfolding passOne
+turn-none m none os s = refl
+turn-none m (some o) os s = move-none _ o os s
+
+pass-none : (m : Market) (is : List ℕ) (os : List Order) (s : ℕ) → phaseReports ((passOver m is os s) .reports) ≡ []
+unfolding passOver
+pass-none m [] os s = refl
+pass-none m (i ∷ is) os s = phase-append ((passOne m (find i os) os s) .reports) _ ∙ rw (turn-none m (find i os) os s, pass-none m is)
+
+the-pass-none : (m : Market) (v : Venue) → phaseReports ((thePass m v) .reports) ≡ []
+unfolding thePass
+the-pass-none m v = pass-none m _ (v .orders) (v .lastStamp)
+
+day-end-last : (os : List Order) (k : ℕ) → phaseReports (map cancelledAtEnd os ++ dayEnded k ∷ []) ≡ dayEnded k ∷ []
+day-end-last [] k = refl
+day-end-last (o ∷ os) k = day-end-last os k
+
+-- the phase by the falls
+
+phase-small : (f : Falls) → phaseBy f ≤ 2
+phase-small f = by-test (λ (x : ℕ). x ≤ 2) (f .today) (λ t. omega arith) (λ t. by-test (λ (x : ℕ). x ≤ 2) (f .dayBefore) (λ u. omega arith) (λ u. omega arith))
+
+tape-by : (f : Falls) (p : ℕ) → phaseAfterTape (f .close) (phaseBy f) p ≡ phaseBy (fallsAfter (tape p) f)
+unfolding pick
+tape-by f p = go (triggers (f .close) p) refl
+  where
+    go : (b : Bool) → triggers (f .close) p ≡ b → phaseAfterTape (f .close) (phaseBy f) p ≡ phaseBy (fallsAfter (tape p) f)
+    go true e = falls (f .close) (phaseBy f) p (phase-small f) (rw e tt) ∙ rw (e, or-true (f .today))
+    go false e = no-fall-stays (f .close) (phaseBy f) p (rw e tt) ∙ rw (e, or-false (f .today))
+
+day-end-by : (f : Falls) (c : ℕ) → phaseAfterDayEnd (phaseBy f) ≡ phaseBy (fallsAfter (dayEnd c) f)
+unfolding pick
+day-end-by f c = go (f .today) (f .dayBefore)
+  where
+    go : (a b : Bool) → phaseAfterDayEnd (pick a 1 (pick b 2 0)) ≡ pick a 2 0
+    go true b = day-ends .carried
+    go false true = day-ends .ends
+    go false false = day-ends .off
+
+-- what is known of the falls agrees with the market
+record Agrees (m : Market) (f : Falls) : Type 0 where
+  close : m.close ≡ f.close
+  phase : m.phase ≡ phaseBy f
+
+market-agrees : (e : Event) (m : Market) (f : Falls) → Agrees m f → Agrees (marketAfter e m) (fallsAfter e f)
+market-agrees (entry e) m f h = h
+market-agrees (cancel i) m f h = h
+market-agrees (bid b) m f h = record { close = h .close; phase = h .phase }
+market-agrees (tape p) m f h = record { close = h .close; phase = rw (h .close, h .phase) (tape-by f p) }
+market-agrees (dayEnd c) m f h = record { close = refl; phase = rw (h .phase) (day-end-by f c) }
+
+-- the reports that are due
+
+restriction-due : (k m : Market) (f : Falls) (p : ℕ) → k.phase ≡ phaseBy f → m.phase ≡ phaseBy (fallsAfter (tape p) f) → phaseReports (restrictionReport k m) ≡ phaseReportsDue (tape p) f
+unfolding pick
+restriction-due k m f p = go (f .today) (f .dayBefore) (triggers (f .close) p)
+  where
+    same : k.phase ≡ m.phase → phaseReports (restrictionReport k m) ≡ []
+    same e = ap phaseReports (restriction-same k m e)
+
+    new : (k.phase ≡ m.phase → ⊥) → phaseReports (restrictionReport k m) ≡ restrictionStarts ∷ []
+    new d = ap phaseReports (restriction-new k m d)
+
+    go : (a b t : Bool) → k.phase ≡ pick a 1 (pick b 2 0) → m.phase ≡ pick (a || t) 1 (pick b 2 0) → phaseReports (restrictionReport k m) ≡ pick (not a && t) (restrictionStarts ∷ []) []
+    go true b t x y = same (x ∙ sym y)
+    go false b false x y = same (x ∙ sym y)
+    go false true true x y = new (λ z. omega arith)
+    go false false true x y = new (λ z. omega arith)
+
+reports-due : (v : Venue) (e : Event) (f : Falls) → Agrees (v .market) f → phaseReports ((effectOf (marketAfter e (v .market)) v e) .reports) ≡ phaseReportsDue e f
+unfolding effectOf entering effectOfEntry effectOfCancel effectOfDayEnd pick
+reports-due v (entry e) f h = work-none _ (v .orders)
+reports-due v (cancel i) f h = refl
+reports-due v (bid b) f h = the-pass-none _ v
+reports-due v (tape p) f h =
+    let m : Market = marketAfter (tape p) (v .market) in
+    phase-append (restrictionReport (v .market) m) _ ∙ rw (the-pass-none m v, append-nil) (restriction-due (v .market) m f p (h .phase) (market-agrees (tape p) (v .market) f h .phase))
+reports-due v (dayEnd c) f h = day-end-last (v .orders) _ ∙ ap (λ (k : ℕ). dayEnded k ∷ []) (rw (h .phase) (day-end-by f c))
+
+-- every list
+
+unless-by : (x : Option ℕ) (v : Venue) (e : Event) (f : Falls) → Agrees (v .market) f → let s : Step = stepUnless x v e in ReportsPhase f e (s .answer) × Agrees (s .venue .market) (fallsAnswered f e (s .answer))
+unfolding stepUnless
+unless-by (some n) v e f h = (tt, h)
+unless-by none v e f h = (reports-due v e f h, market-agrees e (v .market) f h)
+
+run-by : (cs : List Call) (v : Venue) (f : Falls) → Agrees (v .market) f → let r : Run = run v cs in AllReportPhase f (r .answered) × Agrees (r .venue .market) (fallsFrom f (r .answered))
+unfolding run step
+run-by [] v f h = (tt, h)
+run-by (c ∷ cs) v f h =
+    let x = unless-by (refusal v (c .event) (c .buffer)) v (c .event) f h in
+    let y = run-by cs _ _ (x .1) in
+    ((x .0, y .0), y .1)
+
+pub restricted-by-falls : RestrictedByFalls
+unfolding opened pick
+restricted-by-falls s close v o cs =
+    let r = run-by cs v (noFalls close) (rw (opening-known s close v o .fresh) (record { close = refl; phase = refl })) in
+    record { phase = r .1 .phase; reports = r .0 }
+
+-- of calls, from words that mean a fresh venue
+pub by-falls-from : (s close : ℕ) → T (isStep s) → T (legal s close) → {w₀ : List ℕ} → T (isBook w₀) → venueOf w₀ ≡ opened s close → (cs : List AppliedCall) (w′ : List ℕ) → Chain w₀ cs w′ → CallsByFalls close cs w′
+unfolding venueOf
+by-falls-from s close i t u f cs w′ c =
+    let r = fresh-run s close i t u f c in
+    record {
+      read = run (opened s close) (map callOf cs) .answered;
+      readable = r .readable;
+      byFalls = rw (ap (λ (v : Venue). v.market.phase) (r .venue)) (restricted-by-falls s close (opened s close) (opening-gives s close i t) (map callOf cs));
+    }
+
+pub restricted-by-falls-in-calls : RestrictedByFallsInCalls
+restricted-by-falls-in-calls s close i t = by-falls-from s close i t (opened-book s close i t) (opened-venue s close i t)
+
+-- a slump
+
+-- a day end in phase 1
+abbrev carriedStep : ℕ → Venue → Step
+carriedStep c v =
+    record {
+      answer = gives (map cancelledAtEnd (v .orders) ++ dayEnded 2 ∷ []);
+      venue =
+          record {
+            market = record { close = c; phase = 2; bid = 0; step = v.market.step };
+            orders = [];
+            lastId = v.lastId;
+            lastStamp = v.lastStamp;
+            acceptedEvents = v.acceptedEvents + 1;
+          };
+    }
+
+module _ (v : Venue) (t : T (sound v)) (m : v.acceptedEvents < mostEvents) where
+  taken : (e : Event) → refusalOfKind v e ≡ none → refusal v e leastBuffer ≡ none
+  unfolding refusal refuseUnless
+  taken e h = rw (T-true (sound v) t, lt-ltb (v .acceptedEvents) mostEvents m, h)
+
+  tape-taken : (p : ℕ) → T (legal (v.market.step) p) → refusal v (tape p) leastBuffer ≡ none
+  unfolding refusalOfKind refuseUnless
+  tape-taken p l = taken (tape p) (rw (T-true (legal (v.market.step) p) l))
+
+  tape-starts : (p : ℕ) → T (legal (v.market.step) p) → T (triggers (v.market.close) p) → (v.market.phase ≡ 1 → ⊥) → step v (tape p) leastBuffer ≡ tapeStep (restrictionStarts ∷ []) 1 v
+  tape-starts p l h d = changed v p leastBuffer (tape-taken p l) d (falls (v.market.close) (v.market.phase) p (sound-venue v t .market .phase) h)
+
+  day-end-carries : (c : ℕ) → T (legal (v.market.step) c) → v.market.phase ≡ 1 → step v (dayEnd c) leastBuffer ≡ carriedStep c v
+  unfolding step stepUnless effectOf effectOfDayEnd refusalOfKind refuseUnless
+  day-end-carries c l e = rw (taken (dayEnd c) (rw (T-true (legal (v.market.step) c) l)), e, day-ends .carried)
+
+pub slump-restricted : SlumpRestricted
+unfolding phasesTold
+slump-restricted v t d [] m h = refl
+slump-restricted v t d (x ∷ ds) m (l, falling, r, later) =
+    let a : step v (tape (x .price)) leastBuffer ≡ tapeStep (restrictionStarts ∷ []) 1 v = tape-starts v t (omega arith) (x .price) l falling d in
+    let u : Venue = tapeStep (restrictionStarts ∷ []) 1 v .venue in
+    let k : T (sound u) = subst (λ (s : Step). T (sound (s .venue))) a (step-sound v (tape (x .price)) leastBuffer t) in
+    let b : step u (dayEnd (x .close)) leastBuffer ≡ carriedStep (x .close) u = day-end-carries u k (omega arith) (x .close) r refl in
+    let n : T (sound (carriedStep (x .close) u .venue)) = subst (λ (s : Step). T (sound (s .venue))) b (step-sound u (dayEnd (x .close)) leastBuffer k) in
+    rw (a, b, the-pass-none (inPhase 1 (v .market)) v, day-end-last (u .orders) 2, slump-restricted _ n (λ z. omega arith) ds (omega arith) later)
