@@ -1,2 +1,3 @@
 -- What is claimed of document 02's requests.
 pub mod FillLaws
+pub mod FallingAgainLaws

@@ -4,3 +4,4 @@ pub mod HostCalls
 pub mod PlayCalls
 pub mod HostDays
 pub mod HostFill
+pub mod HostFallingAgain
