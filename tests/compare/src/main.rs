@@ -27,6 +27,8 @@ mod document_01;
 #[cfg(feature = "engine")]
 mod engine;
 #[cfg(test)]
+mod falling_days;
+#[cfg(test)]
 mod fill_days;
 mod fill_vectors;
 mod fronts;
