@@ -28,6 +28,7 @@ mod document_01;
 mod engine;
 #[cfg(test)]
 mod falling_days;
+mod falls;
 #[cfg(test)]
 mod fill_days;
 mod fill_vectors;
@@ -57,6 +58,8 @@ mod refused_entries;
 mod replay;
 mod rng;
 mod sessions;
+#[cfg(test)]
+mod shown;
 #[cfg(feature = "engine")]
 mod sides;
 mod streams;

@@ -111,7 +111,7 @@ fn check_watch(step: u32, before: Watch, price: u32, counts: &mut Counts) -> Res
     if answer.is_ok() && triggers {
         expected.phase = 1;
     }
-    counts.half_cents.watch(step, price, answer);
+    counts.watch(step, &before, price, answer);
     ensure(found == answer, "the watch's answer at a step")?;
     ensure(watch == expected, "the watch at a step")
 }
