@@ -12,6 +12,7 @@ use crate::model::{
     Order, OrderRecord, Question, RecordCheck, Refusal, Report, ReportWriter, Side, Venue, Watch,
     BUY, CENT, LEAST_BUFFER, OPT_OUT, PLACES, SHORT,
 };
+use crate::phase_table::{self, watched};
 use crate::price_rules;
 use crate::questions::any_questions;
 use crate::rng::Rng;
@@ -146,7 +147,8 @@ impl Checked {
     }
 
     /// An event on a sound record does what document 01 says without market orders
-    /// and with its own step: by the same prices or by doubled ones.
+    /// and with its own step, by the same prices or by doubled ones; and keeps to the
+    /// table of phases.
     fn check_otherwise(
         &self,
         event: &Event,
@@ -157,6 +159,7 @@ impl Checked {
         let (before, after) = (&self.before, &self.venue);
         conditions::check(before, event, answer)?;
         by_limits::check(before, event, buffer, answer, after)?;
+        phase_table::check(before, event, buffer, answer, after)?;
         let by_document_01 = before.step == CENT;
         if by_document_01 {
             document_01::check(before, event, answer, after)?;
@@ -306,15 +309,15 @@ fn check_stamps(
 /// A host's watch follows the venue's phase through a tape price. No. 6: "The watch
 /// follows the same rule."
 fn check_watch(before: &Venue, price: u32) -> Result<(), Fault> {
-    let mut watch = Watch {
+    let start = Watch {
         close: before.close,
         phase: before.phase,
     };
+    let mut watch = start;
     let answer = watch_tape(&mut watch, before.step, price);
-    let triggers = u64::from(price) * 10 <= u64::from(before.close) * 9;
-    let phase = match before.phase {
-        0 | 2 if answer.is_ok() && triggers => 1,
-        phase => phase,
+    let phase = match answer {
+        Ok(()) => watched(&start, price),
+        Err(_) => before.phase,
     };
     ensure(
         answer.is_ok() == is_legal(before.step, price),

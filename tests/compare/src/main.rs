@@ -49,6 +49,7 @@ mod observe;
 mod odd;
 #[cfg(any(test, feature = "engine"))]
 mod output;
+mod phase_table;
 mod price_rules;
 mod program;
 mod questions;
