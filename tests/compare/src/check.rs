@@ -217,9 +217,9 @@ impl Checked {
 
 /// What section G of the readings says of venues reached from open: shorts at
 /// or above their limits, only shorts adjusted and no opt-out among them; and a
-/// repeated bid or an idle tape price moves no order. A market short is
-/// restricted, came in with a bid present and is adjusted (F1.2), so it is above
-/// its limit.
+/// repeated bid or an idle tape price moves no order. Nor does a second fall (No.
+/// 6), as the restriction was on before it. A market short is restricted, came in
+/// with a bid present and is adjusted (F1.2), so it is above its limit.
 fn check_reached(
     before: &Venue,
     after: &Venue,
@@ -240,7 +240,10 @@ fn check_reached(
         Event::Tape { .. } => after.phase == before.phase,
         _ => false,
     };
-    ensure(!idle || reports.is_empty(), "an idle event moves no order")
+    ensure(!idle || reports.is_empty(), "an idle event moves no order")?;
+    let falls_again = before.phase == 2 && matches!(event, Event::Tape { .. }) && !idle;
+    let is_alone = reports == [Report::RestrictionOn];
+    ensure(!falls_again || is_alone, "a second fall moves no order")
 }
 
 /// What the law may see of a resting order.
