@@ -95,6 +95,7 @@ impl Account {
             Event::Entry(entry) => self.start(Tally::new(entry)),
             Event::Cancel { .. } => {}
             Event::Bid { price } => self.bid = *price,
+            // No. 6 changes this rule with the venue's (E4).
             Event::Tape { price } => {
                 self.phase = phase_after_tape(self.phase, self.close, *price);
             }
@@ -307,6 +308,30 @@ mod tests {
         let bought = [accepted(2, 92_000), sold(1, 91_100)];
         assert_eq!(account.take(&entry(2, 0, 92_000), &bought), Ok(()));
         assert_eq!(account.judge([].into_iter()), Ok(()));
+    }
+
+    /// No. 6: a fall on the second day restricts the third, and without one it is
+    /// free.
+    #[test]
+    fn a_short_at_the_bid_on_the_third_day_is_seen() {
+        let third_day = |second: Event| {
+            let mut account = Account::new(100_000);
+            let first = [ON, Event::DayEnd { price: 90_000 }];
+            let last = [
+                second,
+                Event::DayEnd { price: 81_000 },
+                Event::Bid { price: 80_000 },
+            ];
+            for event in first.iter().chain(&last) {
+                assert_eq!(account.take(event, &[]), Ok(()));
+            }
+            let entered = account.take(&entry(1, 2, 80_000), &[accepted(1, 80_000)]);
+            assert_eq!(entered, Ok(()));
+            account.judge([rest(1, 80_000)].into_iter())
+        };
+        let restricted = Err(Breach::RestingShort(1));
+        assert_eq!(third_day(Event::Tape { price: 81_000 }), restricted);
+        assert_eq!(third_day(Event::Tape { price: 81_100 }), Ok(()));
     }
 
     /// The account knows no step: half a cent above the bid is above it.

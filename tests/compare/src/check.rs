@@ -12,6 +12,7 @@ use crate::model::{
     Order, OrderRecord, Question, RecordCheck, Refusal, Report, ReportWriter, Side, Venue, Watch,
     BUY, CENT, LEAST_BUFFER, OPT_OUT, PLACES, SHORT,
 };
+use crate::phase_table::{self, watched};
 use crate::price_rules;
 use crate::questions::any_questions;
 use crate::rng::Rng;
@@ -146,7 +147,8 @@ impl Checked {
     }
 
     /// An event on a sound record does what document 01 says without market orders
-    /// and with its own step: by the same prices or by doubled ones.
+    /// and with its own step, by the same prices or by doubled ones; and keeps to the
+    /// table of phases.
     fn check_otherwise(
         &self,
         event: &Event,
@@ -157,6 +159,7 @@ impl Checked {
         let (before, after) = (&self.before, &self.venue);
         conditions::check(before, event, answer)?;
         by_limits::check(before, event, buffer, answer, after)?;
+        phase_table::check(before, event, buffer, answer, after)?;
         let by_document_01 = before.step == CENT;
         if by_document_01 {
             document_01::check(before, event, answer, after)?;
@@ -214,9 +217,9 @@ impl Checked {
 
 /// What section G of the readings says of venues reached from open: shorts at
 /// or above their limits, only shorts adjusted and no opt-out among them; and a
-/// repeated bid or an idle tape price moves no order. A market short is
-/// restricted, came in with a bid present and is adjusted (F1.2), so it is above
-/// its limit.
+/// repeated bid or an idle tape price moves no order. Nor does a second fall (No.
+/// 6), as the restriction was on before it. A market short is restricted, came in
+/// with a bid present and is adjusted (F1.2), so it is above its limit.
 fn check_reached(
     before: &Venue,
     after: &Venue,
@@ -237,7 +240,10 @@ fn check_reached(
         Event::Tape { .. } => after.phase == before.phase,
         _ => false,
     };
-    ensure(!idle || reports.is_empty(), "an idle event moves no order")
+    ensure(!idle || reports.is_empty(), "an idle event moves no order")?;
+    let falls_again = before.phase == 2 && matches!(event, Event::Tape { .. }) && !idle;
+    let is_alone = reports == [Report::RestrictionOn];
+    ensure(!falls_again || is_alone, "a second fall moves no order")
 }
 
 /// What the law may see of a resting order.
@@ -306,15 +312,15 @@ fn check_stamps(
 /// A host's watch follows the venue's phase through a tape price. No. 6: "The watch
 /// follows the same rule."
 fn check_watch(before: &Venue, price: u32) -> Result<(), Fault> {
-    let mut watch = Watch {
+    let start = Watch {
         close: before.close,
         phase: before.phase,
     };
+    let mut watch = start;
     let answer = watch_tape(&mut watch, before.step, price);
-    let triggers = u64::from(price) * 10 <= u64::from(before.close) * 9;
-    let phase = match before.phase {
-        0 | 2 if answer.is_ok() && triggers => 1,
-        phase => phase,
+    let phase = match answer {
+        Ok(()) => watched(&start, price),
+        Err(_) => before.phase,
     };
     ensure(
         answer.is_ok() == is_legal(before.step, price),

@@ -83,7 +83,7 @@ pub fn check(
 mod tests {
     use super::*;
     use crate::refused_entries::RefusedEntries;
-    use crate::streams::show_events;
+    use crate::shown::show_events;
 
     /// The answer to an entry of a buy at 90,000 with these codes.
     fn checked(codes: [u32; 4], answer: Result<&[Report], Refusal>) -> Result<(), Fault> {
@@ -115,7 +115,7 @@ mod tests {
     fn show_entries(
         seed: u64,
         events: u32,
-        mut see: impl FnMut(&Venue, &Entry, Result<usize, Refusal>),
+        mut see: impl FnMut(&Venue, &Entry, Result<(), Refusal>),
     ) {
         show_events(seed, events, |before, event, answer| {
             let early = [Refusal::VenueRecord, Refusal::ShortBuffer, Refusal::Spent];

@@ -1,11 +1,12 @@
 //! What a run counts, and the buffer that it lends.
 
 use crate::asked::Asked;
+use crate::falls::Falls;
 use crate::half_cents::HalfCents;
 use crate::market_orders::MarketOrders;
 #[cfg(feature = "engine")]
 use crate::model::{is_step, Stop};
-use crate::model::{Event, Refusal, Report, Venue};
+use crate::model::{Event, Refusal, Report, Venue, Watch};
 use crate::refused_entries::RefusedEntries;
 use crate::rng::Rng;
 use crate::streams::{Kind, Session, MOST_BUFFER};
@@ -58,6 +59,7 @@ pub struct Counts {
     pub half_cents: HalfCents,
     refused_entries: RefusedEntries,
     pub asked: Asked,
+    pub falls: Falls,
     #[cfg(feature = "engine")]
     host: HostCounts,
 }
@@ -73,7 +75,7 @@ struct HostCounts {
     large_depths: u64,
     permitted: Answers,
     watches: Answers,
-    triggers: u64,
+    changed: u64,
     plays: PlayCounts,
 }
 
@@ -97,6 +99,7 @@ impl Counts {
         self.sessions[session.kind as usize] += 1;
         self.market_orders.start(&session.start);
         self.half_cents.start(session);
+        self.falls.start(&session.start);
     }
 
     /// A record that can't be read.
@@ -118,6 +121,7 @@ impl Counts {
         self.answers.add(Ok(()));
         self.market_orders.accept(before, event, reports);
         self.half_cents.accept(before, event, reports);
+        self.falls.accept(before, event, reports);
         self.most_bytes = self.most_bytes.max(bytes);
         for report in reports {
             match report {
@@ -125,6 +129,14 @@ impl Counts {
                 Report::Repriced { .. } => self.repricings += 1,
                 _ => {}
             }
+        }
+    }
+
+    /// A watch before a tape price at a step, and the answer.
+    pub fn watch(&mut self, step: u32, before: &Watch, price: u32, answer: Result<(), Refusal>) {
+        self.half_cents.watch(step, price, answer);
+        if answer.is_ok() {
+            self.falls.watch(step, before, price);
         }
     }
 
@@ -171,10 +183,10 @@ impl Counts {
         self.host.large_depths += u64::from(answer.is_ok_and(|sum| sum > u32::MAX.into()));
     }
 
-    pub fn watch(&mut self, step: u32, price: u32, answer: Result<(), Refusal>, triggers: bool) {
+    /// The answer of a host's watch, and whether its phase changed.
+    pub fn host_watch(&mut self, answer: Result<(), Refusal>, changed: bool) {
         self.host.watches.add(answer);
-        self.host.triggers += u64::from(triggers);
-        self.half_cents.watch(step, price, answer);
+        self.host.changed += u64::from(changed);
     }
 
     pub fn day(&mut self) {
@@ -253,10 +265,10 @@ impl fmt::Display for HostCounts {
         )?;
         let permitted = &self.permitted;
         writeln!(f, "permitted prices {} {permitted}", permitted.accepted)?;
-        let triggers = self.triggers;
+        let changed = self.changed;
         writeln!(
             f,
-            "watches {} triggers {triggers} {watches}",
+            "watches {} changed {changed} {watches}",
             watches.accepted
         )?;
         writeln!(f, "{}", self.plays)
@@ -283,6 +295,7 @@ impl fmt::Display for Counts {
         writeln!(f, "{}", self.half_cents)?;
         writeln!(f, "{}", self.refused_entries)?;
         writeln!(f, "{}", self.asked)?;
+        writeln!(f, "{}", self.falls)?;
         #[cfg(feature = "engine")]
         if self.host.copies.accepted > 0 {
             write!(f, "{}", self.host)?;

@@ -33,7 +33,7 @@ pub fn triggers(close: u32, price: u32) -> bool {
 }
 
 /// Checks an event on a sound venue record at the step of a cent: refusal 3, the
-/// working price, the prices of re-pricings and the trigger.
+/// working price and the prices of re-pricings.
 pub fn check(
     before: &Venue,
     event: &Event,
@@ -52,21 +52,8 @@ pub fn check(
         Ok(reports) => reports,
     };
     ensure(takes, "document 01's 3")?;
-    check_trigger(before, event, after)?;
     let mut reports = reports.iter();
     reports.try_for_each(|report| check_price(before, event, after, report))
-}
-
-/// "In phase 0 a tape price p with 10 × p ≤ 9 × close makes phase 1." No. 6: "In
-/// phase 2 a tape price that meets the trigger gives phase 1".
-fn check_trigger(before: &Venue, event: &Event, after: &Venue) -> Result<(), Fault> {
-    let phase = match *event {
-        Event::Tape { price } if before.phase == 0 => triggers(before.close, price).into(),
-        Event::Tape { price } if before.phase == 2 && triggers(before.close, price) => 1,
-        Event::DayEnd { .. } => return Ok(()),
-        _ => before.phase,
-    };
-    ensure(after.phase == phase, "document 01's trigger")
 }
 
 /// A working price is the limit or "the larger of limit and permitted price"; a

@@ -174,7 +174,7 @@ mod tests {
     use crate::model::RecordCheck;
     use crate::questions::any_questions;
     use crate::rng::Rng;
-    use crate::streams::show_events;
+    use crate::shown::show_events;
 
     /// A wrong version of the rule, and what is wrong with it.
     type Wrong = (&'static str, Rule);

@@ -29,7 +29,7 @@ fn shuffle(rng: &mut Rng, numbers: &mut [u32]) {
 pub fn made_up(rng: &mut Rng, market: &Market) -> Venue {
     let most = PLACES as u32;
     let (few, some) = (rng.up_to(8), rng.up_to(most));
-    let count = rng.pick(&[few, few, few, some, most - 1, most]);
+    let count = rng.pick(&[few, few, few, some, most - 1, most, most]);
     let any_events = rng.between(1, MOST_EVENTS);
     let late = MOST_EVENTS - rng.up_to(3);
     let accepted = rng.pick(&[1, any_events, any_events, any_events, late]);
@@ -44,7 +44,7 @@ pub fn made_up(rng: &mut Rng, market: &Market) -> Venue {
     Venue {
         step: market.ladder.step,
         close: market.close(rng),
-        phase: rng.up_to(2),
+        phase: rng.pick(&[0, 1, 2, 2]),
         bid,
         last_id,
         last_stamp,
@@ -80,10 +80,11 @@ fn made_up_order(rng: &mut Rng, market: &Market, id: u32, stamp: u32) -> Order {
     }
 }
 
-/// Puts all shorts hidden below the market, so that one bid re-prices them all.
-pub fn sink_shorts(venue: &mut Venue, market: &Market) {
+/// Puts all shorts hidden below the market, so that one bid re-prices them all, or a
+/// tape price if there is a bid already.
+pub fn sink_shorts(rng: &mut Rng, venue: &mut Venue, market: &Market) {
     let rung = market.centre.saturating_sub(market.reach).max(1);
-    venue.phase = 1;
+    venue.phase = rng.between(1, 2);
     let shorts = venue.orders.iter_mut().filter(|order| order.mark == SHORT);
     for order in shorts {
         order.price = market.ladder.price_of(rung);

@@ -27,6 +27,9 @@ mod document_01;
 #[cfg(feature = "engine")]
 mod engine;
 #[cfg(test)]
+mod falling_days;
+mod falls;
+#[cfg(test)]
 mod fill_days;
 mod fill_vectors;
 mod fronts;
@@ -46,6 +49,7 @@ mod observe;
 mod odd;
 #[cfg(any(test, feature = "engine"))]
 mod output;
+mod phase_table;
 mod price_rules;
 mod program;
 mod questions;
@@ -55,6 +59,8 @@ mod refused_entries;
 mod replay;
 mod rng;
 mod sessions;
+#[cfg(test)]
+mod shown;
 #[cfg(feature = "engine")]
 mod sides;
 mod streams;

@@ -133,7 +133,8 @@ fn compare_watch(rng: &mut Rng, counts: &mut Counts) -> Result<(), Fault> {
     let (mut engine, mut model) = (before, before);
     let answer = engine::watch(&mut engine, step, price);
     let expected = watch_tape(&mut model, step, price);
-    counts.watch(step, price, expected, model != before);
+    counts.watch(step, &before, price, expected);
+    counts.host_watch(expected, model != before);
     let expected = engine::answer_of(expected.map(|()| 0));
     same(
         "watch: before, step, price, answer, after",

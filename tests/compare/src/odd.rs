@@ -120,22 +120,42 @@ pub fn any_price(rng: &mut Rng) -> u32 {
     rng.pick(&[near, high, odd, odd, number])
 }
 
+/// Closes of a watch at a border: the lowest, where no price triggers or few do, those
+/// where all but the highest do and where all do, and the highest numbers.
+const WATCH_CLOSES: [u32; 10] = [
+    0,
+    1,
+    2,
+    9,
+    10,
+    11,
+    111_111_111,
+    111_111_112,
+    u32::MAX - 1,
+    u32::MAX,
+];
+
 /// A watch record and a tape price: any, the price around the trigger of the
-/// close, or the close around the one that the price triggers.
+/// close, or the close around the one that the price triggers. Its phase is often
+/// one that falls, and at times none or one only to a narrower number.
 pub fn any_watch(rng: &mut Rng) -> (Watch, u32) {
     let ladder = any_ladder(rng);
-    let odd = odd_number(rng);
-    let (close, price) = match rng.up_to(3) {
+    let (odd, code) = (odd_number(rng), odd_code(rng));
+    let (close, price) = match rng.up_to(4) {
         0 => (rng.word(), odd),
         1 => (odd, any_price(rng)),
         2 => (odd, ladder.near_trigger(rng, odd)),
+        3 => {
+            let close = rng.pick(&WATCH_CLOSES);
+            (close, ladder.near_trigger(rng, close))
+        }
         _ => {
             let price = ladder.near_trigger(rng, odd);
             let close = u64::from(price) * 10 / 9;
             (close as u32 + rng.up_to(2) - 1, price)
         }
     };
-    let phase = rng.pick(&[0, 0, 0, 1, 2, 3, odd]);
+    let phase = rng.pick(&[0, 0, 1, 2, 2, 3, odd, code]);
     (Watch { close, phase }, price)
 }
 

@@ -6,6 +6,7 @@ use crate::counts::Counts;
 use crate::document_01;
 use crate::model::{permitted_price, watch_tape, Order, Refusal, Venue, Watch, CENT, HALF_CENT};
 use crate::odd::{any_price, any_step, any_watch};
+use crate::phase_table::watched;
 use crate::rng::Rng;
 use crate::sessions::{ensure, Fault};
 
@@ -105,13 +106,11 @@ fn check_watch(step: u32, before: Watch, price: u32, counts: &mut Counts) -> Res
     let mut watch = before;
     let found = watch_tape(&mut watch, step, price);
     let answer = answer_of(step, is_legal(step, price));
-    let may_turn = matches!(before.phase, 0 | 2);
-    let triggers = may_turn && document_01::triggers(before.close, price);
     let mut expected = before;
-    if answer.is_ok() && triggers {
-        expected.phase = 1;
+    if answer.is_ok() {
+        expected.phase = watched(&before, price);
     }
-    counts.half_cents.watch(step, price, answer);
+    counts.watch(step, &before, price, answer);
     ensure(found == answer, "the watch's answer at a step")?;
     ensure(watch == expected, "the watch at a step")
 }

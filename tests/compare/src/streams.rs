@@ -4,8 +4,6 @@
 
 use crate::ladder::Ladder;
 use crate::made_up::{made_up, sink_shorts, spoil_record};
-#[cfg(test)]
-use crate::model::Refusal;
 use crate::model::{
     read_record, write_number, write_record, Entry, Event, RecordCheck, Venue, CENT, DOLLAR,
     HALF_CENT, LEAST_BUFFER, LONGEST_NUMBER, LOWEST, MOST_SHARES, PLACES, SHORT,
@@ -16,6 +14,7 @@ use crate::rng::Rng;
 /// At which step and where a session trades, how far from there, and how often
 /// in a hundred events something other than an entry comes; how many of a hundred
 /// entries are market orders, and how many of twenty bids are none or the lowest.
+/// In a slump days are short and most tape prices are around the trigger.
 pub struct Market {
     pub ladder: Ladder,
     pub centre: u32,
@@ -28,6 +27,7 @@ pub struct Market {
     market_orders: u32,
     no_bids: u32,
     lowest_bids: u32,
+    slump: bool,
 }
 
 /// How often each mark comes: mixed, mostly shorts, hardly any short.
@@ -42,18 +42,24 @@ impl Market {
         let (dollars, top) = (ladder.rung_of(91_000), ladder.top());
         let anywhere = rng.between(1, top);
         let centres = [910, dollars, DOLLAR, DOLLAR + 1, 12, top - 4, anywhere];
+        let slump = rng.one_in(4);
         Market {
             ladder,
             centre: rng.pick(&centres),
             reach: rng.pick(&[2, 5, 5, 20, 300]),
             cancels: rng.pick(&[1, 8, 20]),
             bids: rng.pick(&[4, 15, 30]),
-            tapes: rng.pick(&[2, 6]),
-            quiet_days: rng.pick(&[60, 400, 2_000]),
+            tapes: rng.pick(if slump { &[10, 25] } else { &[2, 6] }),
+            quiet_days: rng.pick(if slump {
+                &[12, 30, 60]
+            } else {
+                &[60, 400, 2_000]
+            }),
             marks: rng.pick(&[MIXED, MIXED, MIXED, SHORTS, OTHERS]),
             market_orders: rng.pick(&[0, 4, 20, 50]),
             no_bids: rng.pick(&[1, 1, 6]),
             lowest_bids: rng.pick(&[0, 0, 1]),
+            slump,
         }
     }
 
@@ -71,6 +77,7 @@ impl Market {
             market_orders: 0,
             no_bids: 1,
             lowest_bids: 0,
+            slump: false,
         }
     }
 
@@ -85,10 +92,9 @@ impl Market {
 
     /// An event that makes sense for the venue as it stands.
     fn event(&self, rng: &mut Rng, venue: &Venue) -> Event {
-        if rng.one_in(self.quiet_days) {
-            return Event::DayEnd {
-                price: self.close(rng),
-            };
+        if self.ends_day(rng, venue) {
+            let price = self.next_close(rng, venue);
+            return Event::DayEnd { price };
         }
         let drawn = rng.up_to(99);
         if drawn < self.cancels && !venue.orders.is_empty() {
@@ -123,9 +129,29 @@ impl Market {
         }
     }
 
-    /// A tape price around the trigger, or around the centre.
+    /// In a slump some days end on their morning, right behind the day before.
+    fn ends_day(&self, rng: &mut Rng, venue: &Venue) -> bool {
+        let morning = venue.bid == 0 && venue.orders.is_empty();
+        match self.slump && morning {
+            true => rng.one_in(5),
+            false => rng.one_in(self.quiet_days),
+        }
+    }
+
+    /// Around the centre; in a slump as often around the trigger of the day, so that
+    /// closes fall with the tape.
+    fn next_close(&self, rng: &mut Rng, venue: &Venue) -> u32 {
+        if self.slump && rng.one_in(2) {
+            self.ladder.near_trigger(rng, venue.close)
+        } else {
+            self.close(rng)
+        }
+    }
+
+    /// A tape price around the trigger, in a slump most of them, or around the
+    /// centre.
     fn tape(&self, rng: &mut Rng, venue: &Venue) -> u32 {
-        if rng.one_in(3) {
+        if rng.one_in(3) != self.slump {
             self.ladder.near_trigger(rng, venue.close)
         } else {
             self.ladder.near(rng, self.centre, self.reach)
@@ -378,7 +404,7 @@ impl Session {
             Kind::MadeUp => {
                 let mut venue = made_up(&mut rng, &market);
                 if rng.one_in(6) {
-                    sink_shorts(&mut venue, &market);
+                    sink_shorts(&mut rng, &mut venue, &market);
                 }
                 (venue, rng.between(1, 60), Vec::new())
             }
@@ -429,6 +455,12 @@ impl Session {
             let odd = odd_number(&mut self.rng);
             return Event::Entry(spoil_codes(&mut self.rng, entry, odd, venue));
         }
+        // In phase 2 the pass of a bid leaves that of a fall nothing to do.
+        let untouched = venue.accepted == self.start.accepted;
+        if venue.phase == 2 && untouched && self.rng.one_in(2) {
+            let price = self.market.ladder.near_trigger(&mut self.rng, venue.close);
+            return Event::Tape { price };
+        }
         let sound = self.market.event(&mut self.rng, venue);
         let nonsense_one_in = match self.kind {
             Kind::Nonsense => 2,
@@ -439,33 +471,6 @@ impl Session {
             nonsense(&mut self.rng, sound, venue)
         } else {
             sound
-        }
-    }
-}
-
-/// Shows so many events, each with the venue before it and the answer, but for
-/// those that can't be read.
-#[cfg(test)]
-pub fn show_events(
-    seed: u64,
-    events: u32,
-    mut see: impl FnMut(&Venue, &Event, Result<usize, Refusal>),
-) {
-    let mut seeds = Rng::new(seed);
-    let mut buffer = vec![0; MOST_BUFFER];
-    let mut over = 0;
-    while over < events {
-        let mut session = Session::new(seeds.next());
-        let mut venue = session.start.clone();
-        while let Some(call) = session.next(&venue) {
-            over += 1;
-            let Ok((event, _)) = read_record(call.record, 0) else {
-                continue;
-            };
-            let before = venue.clone();
-            let lent = &mut buffer[..call.buffer];
-            let answer = venue.apply(&event, lent, RecordCheck::Done);
-            see(&before, &event, answer);
         }
     }
 }

@@ -121,6 +121,17 @@ mod tests {
         assert_eq!(phase_after_tape(0, 9_999, 9_000), 0);
     }
 
+    /// "In phase 2 a tape price that meets the trigger gives phase 1", "In phase 1 it
+    /// still leaves the phase alone"; a day end is as it was.
+    #[test]
+    fn phases() {
+        let after = |price| [0, 1, 2].map(|phase| phase_after_tape(phase, 100_000, price));
+        assert_eq!(after(90_100), [0, 1, 2]);
+        assert_eq!(after(90_000), [1, 1, 1]);
+        assert_eq!(after(89_900), [1, 1, 1]);
+        assert_eq!([0, 1, 2].map(phase_after_day_end), [0, 2, 0]);
+    }
+
     /// The same sums for half-cent stocks: "below, both stay as they were", and
     /// 90,050 is the lowest price that doesn't trigger at close 100,000.
     #[test]
@@ -210,6 +221,58 @@ mod tests {
         close: 100_000,
         phase: 0,
     };
+
+    /// A step, a close, the highest price that triggers there and the next above;
+    /// at 0 and 1 no price does, at 111,111,112 and up every one.
+    const TRIGGERS: [(u32, u32, u32, u32); 11] = [
+        (100, 100_000, 90_000, 90_100),
+        (50, 100_000, 90_000, 90_050),
+        (100, 100_100, 90_000, 90_100),
+        (50, 100_050, 90_000, 90_050),
+        (100, 9_999, 8_999, 9_000),
+        (50, 11_111, 9_999, 10_000),
+        (100, 11_112, 10_000, 10_100),
+        (50, 10, 9, 10),
+        (100, 9, 8, 9),
+        (50, 2, 1, 2),
+        (100, 111_111_111, 99_999_900, 100_000_000),
+    ];
+
+    /// "The watch follows the same rule.", in phases 0 and 2 alone (B4).
+    fn watched(phase: u32, triggers: bool) -> u32 {
+        match (phase, triggers) {
+            (0, true) => 1,
+            (2, true) => 1,
+            (phase, _) => phase,
+        }
+    }
+
+    fn assert_watched(step: u32, close: u32, price: u32, triggers: bool) {
+        for phase in [0, 1, 2, 3, 9, u32::MAX] {
+            let mut watch = Watch { close, phase };
+            assert_eq!(watch_tape(&mut watch, step, price), Ok(()));
+            let phase = watched(phase, triggers);
+            assert_eq!(watch, Watch { close, phase }, "tape {price}");
+        }
+    }
+
+    #[test]
+    fn a_watch_follows_falls_in_phases_0_and_2() {
+        for (step, close, highest, above) in TRIGGERS {
+            assert_watched(step, close, highest, true);
+            assert_watched(step, close, above, false);
+            assert_watched(step, close, 1, true);
+        }
+        for step in [50, 100] {
+            assert_watched(step, 100_000, 90_000 - step, true);
+            for price in [1, 9_999, HIGHEST] {
+                assert_watched(step, 0, price, false);
+                assert_watched(step, 1, price, false);
+                assert_watched(step, 111_111_112, price, true);
+                assert_watched(step, u32::MAX, price, true);
+            }
+        }
+    }
 
     #[test]
     fn a_watch_takes_half_cent_prices_at_the_half_cent_step_only() {
