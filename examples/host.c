@@ -16,11 +16,12 @@ static void price(const char *what, uint32_t step, uint32_t bid)
     printf("permitted price at %" PRIu32 ", %s %" PRIu32 ": %" PRIu32 "\n", step, what, bid, venue_permitted_price(step, bid));
 }
 
-static void watch(uint32_t step, uint32_t tape)
+static void watch(uint32_t step, uint32_t phase, uint32_t tape)
 {
-    struct venue_watch_record record = {100000, 0};
+    struct venue_watch_record record = {100000, phase};
     uint32_t answer = venue_watch(&record, step, tape);
-    printf("watch at %" PRIu32 ", tape price %" PRIu32 ": refusal %" PRIu32 ", phase %" PRIu32 "\n", step, tape, venue_refusal(answer), record.phase);
+    printf("watch at %" PRIu32 ", phase %" PRIu32 ", tape price %" PRIu32 ": refusal %" PRIu32 ", phase %" PRIu32 "\n", step, phase, tape, venue_refusal(answer),
+           record.phase);
 }
 
 static void apply(const char *what, uint32_t *words, const uint8_t *record, size_t length)
@@ -70,10 +71,12 @@ int main(void)
     price("bid", VENUE_HALF_CENT, 99999950);
     price("not a bid", VENUE_HALF_CENT, 91125);
     price("not a step, bid", 75, 91100);
-    watch(VENUE_CENT, 90000);
-    watch(VENUE_CENT, 89950);
-    watch(VENUE_HALF_CENT, 89950);
-    watch(75, 90000);
+    watch(VENUE_CENT, 0, 90000);
+    watch(VENUE_CENT, 0, 89950);
+    watch(VENUE_CENT, 2, 90000);
+    watch(VENUE_CENT, 9, 90000);
+    watch(VENUE_HALF_CENT, 0, 89950);
+    watch(75, 0, 90000);
     printf("open at 75: refusal %" PRIu32 "\n", venue_refusal(venue_open(words, VENUE_WORDS, 75, 0)));
     if (venue_open(words, VENUE_WORDS, VENUE_CENT, 100000) != 0)
         return 1;

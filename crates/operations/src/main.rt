@@ -64,6 +64,14 @@ fn bad_steps() {
     try_watch(4_294_967_295, 100_000, 0, 1);
 }
 
+// On the day after a fall, at both steps: a new fall, and a price just above it.
+fn carried_watches() {
+    try_watch(100, 100_000, 2, 90_100);
+    try_watch(50, 100_000, 2, 90_000);
+    try_watch(50, 100_000, 2, 90_050);
+    try_watch(50, 100_000, 3, 90_000);
+}
+
 fn watches() {
     io::write_all(STDOUT_FILENO, b"watch\n");
     try_watch(100, 100_000, 0, 90_000);
@@ -81,6 +89,7 @@ fn watches() {
     try_watch(50, 100_000, 0, 89_950);
     try_watch(50, 100_000, 0, 89_975);
     try_watch(50, 4_294_967_295, 0, 99_999_950);
+    carried_watches();
     bad_steps();
 }
 
