@@ -1,4 +1,5 @@
 -- What is claimed of document 02's requests.
+pub mod PassLaws
 pub mod MarketOrderLaws
 pub mod HalfCentLaws
 pub mod WhichCodeLaws

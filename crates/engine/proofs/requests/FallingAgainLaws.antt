@@ -16,7 +16,7 @@ use Rattle.numbers.specs.SevenBit.{bytesOfAll, overwrite}
 use Rattle.numbers.proofs.TestLaws.{by-test, T-true}
 use Rattle.numbers.proofs.ByteLaws.{bytes-last}
 use Rattle.prices.specs.Prices.{isStep, legal}
-use Rattle.prices.specs.Restriction.{triggers, phaseAfterTape, phaseAfterDayEnd, restrictionOn}
+use Rattle.prices.specs.Restriction.{triggers, phaseAfterTape, phaseAfterDayEnd}
 use Rattle.prices.proofs.PriceLaws.{no-bid}
 use Rattle.prices.proofs.FallingAgainLaws.{same-day-stays, no-fall-stays, falls, day-ends, falling-again}
 use Rattle.book.specs.declared.Order.{Order}
@@ -30,10 +30,10 @@ use Rattle.engine.specs.declared.Remainder.{Remainder}
 use Rattle.engine.specs.declared.Remainder.the-variants.{Filled, Cancelled, Rests}
 use Rattle.engine.specs.declared.Move.{Move}
 use Rattle.engine.specs.declared.Move.the-variants.{Stay, Cancel, Reprice}
-use Rattle.engine.specs.rules.Market.{marketAfter, restricted, permittedNow}
+use Rattle.engine.specs.rules.Market.{marketAfter, permittedNow}
 use Rattle.engine.specs.rules.Reports.{Report, accepted, executed, cancelled, repriced, restrictionStarts, dayEnded}
 use Rattle.engine.specs.rules.Working.{remainder, afterRemainder, work}
-use Rattle.engine.specs.rules.Pass.{slideOnce, slideDown, maySlide, moveOf, afterMove, passOne, passOver}
+use Rattle.engine.specs.rules.Pass.{afterMove, passOne, passOver}
 use Rattle.engine.specs.rules.Venue.{Venue, opened, opening, entering, effectOfEntry, effectOfCancel, thePass, restrictionReport, cancelledAtEnd, effectOfDayEnd, effectOf, venueAfter}
 use Rattle.engine.specs.rules.Sound.{mostEvents, sound}
 use Rattle.engine.specs.rules.Refusals.{refuseUnless, refusalOfKind, leastBuffer, refusal}
@@ -45,6 +45,7 @@ use Rattle.engine.specs.claims.Calls.{Applied, AppliedCall, Chain}
 use Rattle.engine.specs.claims.FallingAgain.{inPhase, tapeStep, TapeTable, TapeEvents, TapeLeaves, TapeCallTable, TapeCalls, PassAsBefore, Falls, noFalls, fallsAfter, fallsAnswered, fallsFrom, phaseBy, phaseReportsDue, phaseReports, ReportsPhase, AllReportPhase, RestrictedByFalls, CallsByFalls, RestrictedByFallsInCalls, SlumpDay, slumpEvents, Slump, PhaseTold, phasesTold, restrictedEachDay, SlumpRestricted}
 use Rattle.engine.proofs.refinement.StepLaws.{reports-append}
 use Rattle.engine.proofs.refinement.QuoteLaws.{restriction-same, restriction-new}
+use Rattle.engine.proofs.requests.PassLaws.{same-pass}
 use Rattle.engine.proofs.refinement.OpeningLaws.{opening-known, opening-gives, opened-book, opened-venue, step-in}
 use Rattle.engine.proofs.demand3.SoundLaws.{sound-venue}
 use Rattle.engine.proofs.demand3.ReachedLaws.{step-sound}
@@ -116,23 +117,11 @@ module _ {w w′ b b′ : List ℕ} {p count : ℕ} (a : Applied w (tape p) b (g
 pub tape-calls : TapeCalls
 tape-calls w p b count w′ b′ a = tape-call-table a
 
--- phases that are on or off alike have the same pass
-
-module _ (m : Market) (j k : ℕ) (h : restrictionOn j ≡ restrictionOn k) where
-  same-turn : (x : Option Order) (os : List Order) (s : ℕ) → passOne (inPhase j m) x os s ≡ passOne (inPhase k m) x os s
-  unfolding passOne moveOf slideDown slideOnce maySlide restricted permittedNow
-  same-turn none os s = refl
-  same-turn (some o) os s = rw h
-
-  same-pass : (is : List ℕ) (os : List Order) (s : ℕ) → passOver (inPhase j m) is os s ≡ passOver (inPhase k m) is os s
-  unfolding passOver
-  same-pass [] os s = refl
-  same-pass (i ∷ is) os s = rw (same-turn (find i os) os s, same-pass is)
-
+-- the restriction is on as before, and so the pass is what it was
 pub pass-as-before : PassAsBefore
-unfolding thePass
+unfolding thePass permittedNow
 pass-as-before v p =
-    same-pass (v .market) _ _ (falling-again .venue (v.market.close) p .onAsBefore (v.market.phase)) _ (v .orders) (v .lastStamp)
+    same-pass _ _ refl (falling-again .venue (v.market.close) p .onAsBefore (v.market.phase)) refl _ (v .orders) (v .lastStamp)
 
 -- which events report 5 and 6
 

@@ -2,14 +2,12 @@
 use Prim.Native.Nat.{ℕ, _+_}
 use mathlib.Core.Path.{_≡_, refl, ap, subst}
 use mathlib.Core.Bool.{false, not}
-use mathlib.Core.List.{List, [], _∷_}
-use mathlib.Core.Option.{Option, none, some}
+use mathlib.Core.List.{List}
 use lib.Dec.{T, not-T, T-not}
 use Rattle.numbers.specs.Tests.{pick}
 use Rattle.numbers.proofs.TestLaws.{T-false}
 use Rattle.prices.specs.Prices.{isStep, legal, isBid, permitted, atStep}
 use Rattle.book.specs.declared.Order.{Order}
-use Rattle.book.specs.rules.Orders.{find}
 use Rattle.book.specs.rules.Sound.{soundOrder}
 use Rattle.engine.specs.declared.Market.{Market}
 use Rattle.engine.specs.declared.Entry.{Entry}
@@ -17,13 +15,14 @@ use Rattle.engine.specs.declared.Event.{Event}
 use Rattle.engine.specs.declared.Event.the-variants.{Entry as entry, Cancel as cancel, Bid as bid, Tape as tape, DayEnd as dayEnd}
 use Rattle.engine.specs.rules.Market.{marketAfter, restricted, permittedNow}
 use Rattle.engine.specs.rules.Working.{followsBid, lifeOf, workingPrice, orderOf}
-use Rattle.engine.specs.rules.Pass.{slideOnce, slideDown, maySlide, moveOf, passOne, passOver}
+use Rattle.engine.specs.rules.Pass.{slideDown, moveOf, passOver}
 use Rattle.engine.specs.rules.Venue.{Venue, opening, entering, effectOfEntry, effectOfCancel, thePass, restrictionReport, effectOfDayEnd, effectOf}
 use Rattle.engine.specs.rules.Sound.{sound}
 use Rattle.engine.specs.rules.Refusals.{refuseUnless, refusalOfTerms, refusalOfKind, refusal}
 use Rattle.engine.specs.rules.Run.{stepUnless, step}
 use Rattle.engine.specs.claims.HalfCents.{soundBefore, refusalBefore, EventsAsBefore, PricesGivenAsBefore, withStep, venueWithStep, CentsAsBefore, OthersRefused, OtherStepsRefused}
 use Rattle.engine.proofs.refinement.RefusalLaws.{sound-step}
+use Rattle.engine.proofs.requests.PassLaws.{same-pass}
 
 -- as before
 
@@ -62,22 +61,16 @@ module _ (s t : ℕ) (m : Market) (h : permitted s (m .bid) ≡ permitted t (m .
   unfolding orderOf workingPrice lifeOf followsBid restricted permittedNow
   same-order stamp e = rw h
 
-  same-turn : (x : Option Order) (os : List Order) (n : ℕ) → passOne (withStep s m) x os n ≡ passOne (withStep t m) x os n
-  unfolding passOne moveOf slideDown slideOnce maySlide restricted permittedNow
-  same-turn none os n = refl
-  same-turn (some o) os n = rw h
-
-  same-pass : (is : List ℕ) (os : List Order) (n : ℕ) → passOver (withStep s m) is os n ≡ passOver (withStep t m) is os n
-  unfolding passOver
-  same-pass [] os n = refl
-  same-pass (i ∷ is) os n = rw (same-turn (find i os) os n, same-pass is)
+  pass : (is : List ℕ) (os : List Order) (n : ℕ) → passOver (withStep s m) is os n ≡ passOver (withStep t m) is os n
+  unfolding permittedNow
+  pass = same-pass (withStep s m) (withStep t m) refl refl h
 
   same-effect : (v : Venue) (e : Event) → effectOf (withStep s m) (venueWithStep s v) e ≡ effectOf (withStep t m) (venueWithStep t v) e
   unfolding effectOf effectOfEntry effectOfCancel thePass restrictionReport effectOfDayEnd
   same-effect v (entry e) = ap (λ (o : Order). entering o (v .orders)) (same-order (v .lastStamp + 1) e)
   same-effect v (cancel i) = refl
-  same-effect v (bid b) = same-pass _ (v .orders) (v .lastStamp)
-  same-effect v (tape p) = rw (same-pass _ (v .orders) (v .lastStamp))
+  same-effect v (bid b) = pass _ (v .orders) (v .lastStamp)
+  same-effect v (tape p) = rw (pass _ (v .orders) (v .lastStamp))
   same-effect v (dayEnd c) = refl
 
 pub cents-as-before : CentsAsBefore
