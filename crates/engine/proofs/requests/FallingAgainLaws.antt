@@ -1,15 +1,14 @@
 -- No. 6: what a tape price does in each phase, that the phase and the reports 5 and 6 follow from the falls alone, and that a slump is restricted every day.
 -- Assumes nothing.
-use Prim.Native.Nat.{ℕ, _+_, _*_, _≤_, _<_}
+use Prim.Native.Nat.{ℕ, _+_, _≤_, _<_}
 use native.Mathlib.Omega.{arith}
 use mathlib.Core.Path.{_≡_, refl, sym, ap, _∙_, subst}
 use mathlib.Core.Bool.{Bool, true, false, not, _&&_, _||_, or-true, or-false}
-use mathlib.Core.Logic.{_⊎_, inl, inr}
 use mathlib.Core.Option.{Option, none, some}
 use mathlib.Core.List.{List, [], _∷_, _++_, map, append-nil}
 use lib.Dec.{T}
 use lib.ListN.{length}
-use borrow.Author.Tests.{le-leb, lt-ltb}
+use borrow.Author.Tests.{lt-ltb}
 use Rattle.numbers.specs.Tests.{pick}
 use Rattle.numbers.specs.Answers.{gives}
 use Rattle.numbers.specs.SevenBit.{bytesOfAll, overwrite}
@@ -17,7 +16,6 @@ use Rattle.numbers.proofs.TestLaws.{by-test, T-true}
 use Rattle.numbers.proofs.ByteLaws.{bytes-last}
 use Rattle.prices.specs.Prices.{isStep, legal}
 use Rattle.prices.specs.Restriction.{triggers, phaseAfterTape, phaseAfterDayEnd}
-use Rattle.prices.proofs.PriceLaws.{no-bid}
 use Rattle.prices.proofs.FallingAgainLaws.{same-day-stays, no-fall-stays, falls, day-ends, falling-again}
 use Rattle.book.specs.declared.Order.{Order}
 use Rattle.book.specs.rules.Orders.{find}
@@ -34,7 +32,7 @@ use Rattle.engine.specs.rules.Market.{marketAfter, permittedNow}
 use Rattle.engine.specs.rules.Reports.{Report, accepted, executed, cancelled, repriced, restrictionStarts, dayEnded}
 use Rattle.engine.specs.rules.Working.{remainder, afterRemainder, work}
 use Rattle.engine.specs.rules.Pass.{afterMove, passOne, passOver}
-use Rattle.engine.specs.rules.Venue.{Venue, opened, opening, entering, effectOfEntry, effectOfCancel, thePass, restrictionReport, cancelledAtEnd, effectOfDayEnd, effectOf, venueAfter}
+use Rattle.engine.specs.rules.Venue.{Venue, opened, entering, effectOfEntry, effectOfCancel, thePass, restrictionReport, cancelledAtEnd, effectOfDayEnd, effectOf}
 use Rattle.engine.specs.rules.Sound.{mostEvents, sound}
 use Rattle.engine.specs.rules.Refusals.{refuseUnless, refusalOfKind, leastBuffer, refusal}
 use Rattle.engine.specs.rules.Run.{Step, stepUnless, step, Call, Run, run}
@@ -42,14 +40,14 @@ use Rattle.engine.specs.rules.Records.{reportBytes, reportsBytes}
 use Rattle.engine.specs.rules.Answers.{bufferAfter}
 use Rattle.engine.specs.rules.Layout.{venueOf, stepIn}
 use Rattle.engine.specs.claims.Calls.{Applied, AppliedCall, Chain}
-use Rattle.engine.specs.claims.FallingAgain.{inPhase, tapeStep, TapeTable, TapeEvents, TapeLeaves, TapeCallTable, TapeCalls, PassAsBefore, Falls, noFalls, fallsAfter, fallsAnswered, fallsFrom, phaseBy, phaseReportsDue, phaseReports, ReportsPhase, AllReportPhase, RestrictedByFalls, CallsByFalls, RestrictedByFallsInCalls, SlumpDay, slumpEvents, Slump, PhaseTold, phasesTold, restrictedEachDay, SlumpRestricted}
+use Rattle.engine.specs.claims.FallingAgain.{inPhase, tapeStep, TapeTable, TapeEvents, TapeLeaves, TapeCallTable, TapeCalls, PassAsBefore, Falls, noFalls, fallsAfter, fallsAnswered, fallsFrom, phaseBy, phaseReportsDue, phaseReports, ReportsPhase, AllReportPhase, RestrictedByFalls, CallsByFalls, RestrictedByFallsInCalls, phasesTold, SlumpRestricted}
 use Rattle.engine.proofs.refinement.StepLaws.{reports-append}
 use Rattle.engine.proofs.refinement.QuoteLaws.{restriction-same, restriction-new}
 use Rattle.engine.proofs.requests.PassLaws.{same-pass}
 use Rattle.engine.proofs.refinement.OpeningLaws.{opening-known, opening-gives, opened-book, opened-venue, step-in}
 use Rattle.engine.proofs.demand3.SoundLaws.{sound-venue}
 use Rattle.engine.proofs.demand3.ReachedLaws.{step-sound}
-use Rattle.engine.proofs.demand3.CallLaws.{accepted-call, callOf, IsRun, fresh-run}
+use Rattle.engine.proofs.demand3.CallLaws.{accepted-call, callOf, fresh-run}
 
 -- one tape event
 
@@ -57,25 +55,23 @@ module _ (v : Venue) (p n : ℕ) (h : refusal v (tape p) n ≡ none) where
   abbrev after : ℕ
   after = phaseAfterTape (v.market.close) (v.market.phase) p
 
-  reported : step v (tape p) n ≡ tapeStep (restrictionReport (v .market) (inPhase after (v .market))) after v
+  left-in : (k : ℕ) → after ≡ k → step v (tape p) n ≡ tapeStep (restrictionReport (v .market) (inPhase k (v .market))) k v
   unfolding step stepUnless effectOf
-  reported = rw h
+  left-in k e = rw (h, e)
 
   changed : (v.market.phase ≡ 1 → ⊥) → after ≡ 1 → step v (tape p) n ≡ tapeStep (restrictionStarts ∷ []) 1 v
-  changed d e =
-      reported ∙ ap (λ (k : ℕ). tapeStep (restrictionReport (v .market) (inPhase k (v .market))) k v) e ∙ ap (λ (rs : List Report). tapeStep rs 1 v) (restriction-new (v .market) (inPhase 1 (v .market)) d)
+  changed d e = left-in 1 e ∙ ap (λ (rs : List Report). tapeStep rs 1 v) (restriction-new (v .market) (inPhase 1 (v .market)) d)
 
-  unchanged : after ≡ v.market.phase → step v (tape p) n ≡ tapeStep [] (v.market.phase) v
-  unchanged e =
-      reported ∙ ap (λ (k : ℕ). tapeStep (restrictionReport (v .market) (inPhase k (v .market))) k v) e ∙ ap (λ (rs : List Report). tapeStep rs (v.market.phase) v) (restriction-same (v .market) (inPhase (v.market.phase) (v .market)) refl)
+  unchanged : (k : ℕ) → v.market.phase ≡ k → after ≡ k → step v (tape p) n ≡ tapeStep [] k v
+  unchanged k d e = left-in k e ∙ ap (λ (rs : List Report). tapeStep rs k v) (restriction-same (v .market) (inPhase k (v .market)) d)
 
   tape-table : TapeTable v p n
   tape-table =
       record {
         starts = λ e t. changed (λ z. omega arith) (falls (v.market.close) (v.market.phase) p (omega arith) t);
         fallsAgain = λ e t. changed (λ z. omega arith) (falls (v.market.close) (v.market.phase) p (omega arith) t);
-        sameDayStays = λ e. unchanged (rw e (same-day-stays (v.market.close) p)) ∙ ap (λ (k : ℕ). tapeStep [] k v) e;
-        noFallStays = λ t. unchanged (no-fall-stays (v.market.close) (v.market.phase) p t);
+        sameDayStays = λ e. unchanged 1 e (rw e (same-day-stays (v.market.close) p));
+        noFallStays = λ t. unchanged (v.market.phase) refl (no-fall-stays (v.market.close) (v.market.phase) p t);
       }
 
 pub tape-events : TapeEvents

@@ -26,7 +26,6 @@ use Rattle.book.proofs.definitions.MatchingLaws.{afterTrade-all, afterTrade-dif
 use Rattle.book.proofs.definitions.FillLaws.{front-fills, front-enough, front-shortest, front-whole, reached-alike, matching-left}
 use Rattle.engine.specs.declared.Market.{Market}
 use Rattle.engine.specs.declared.Entry.{Entry}
-use Rattle.engine.specs.declared.Event.{Event}
 use Rattle.engine.specs.declared.Event.the-variants.{Entry as entry}
 use Rattle.engine.specs.declared.Remainder.{Remainder}
 use Rattle.engine.specs.declared.Remainder.the-variants.{Filled, Cancelled, Rests}
@@ -49,7 +48,7 @@ use Rattle.engine.proofs.refinement.OpeningLaws.{opened-book, opened-ve
 use Rattle.engine.proofs.refinement.QuestionLaws.{asked-shares, sound-not-16, words-not-16}
 use Rattle.engine.proofs.demand3.SoundLaws.{sound-venue, venue-sound, book-distinct, book-others}
 use Rattle.engine.proofs.demand3.ReachedLaws.{reached-sound}
-use Rattle.engine.proofs.demand3.CallLaws.{Readable, step-readable, bytes-read, reached-words}
+use Rattle.engine.proofs.demand3.CallLaws.{accepted-call, Readable, step-readable, bytes-read, reached-words}
 
 -- The answer by the book
 
@@ -281,11 +280,6 @@ in-words-shortest w mark price shares r =
 pub reads-shortest-in-calls : ReadsShortestInCalls
 reads-shortest-in-calls w mark price shares t q r e = in-words-shortest w mark price shares r (sym q ∙ e)
 
-laid-out : (w : List ℕ) (e : Event) (n : ℕ) (rs : List Report) → stepIn w e n .answer ≡ gives rs → T (isBook w)
-unfolding stepIn
-laid-out w e n rs =
-    by-test (λ (s : Step). s .answer ≡ gives rs → T (isBook w)) (isBook w) (λ t q. t) (λ t q. let y : _≡_ {A = ℕ} 0 1 = cc in absurd (omega arith))
-
 pub true-of-call : (w : List ℕ) (e : Entry) → Word (e .id) → {b : List ℕ} {count : ℕ} {w′ b′ : List ℕ} → Applied w (entry e) b (gives count) w′ b′ → {o : Outcome FrontRead} → o ≡ answerIn w e → TrueOfBytes e b′ count o
 true-of-call w e i {b} {count} {w′} {b′} a {o} q = go (stepIn w (entry e) (length b) .answer) refl (a .answers) (a .buffer)
   where
@@ -293,7 +287,7 @@ true-of-call w e i {b} {count} {w′} {b′} a {o} q = go (stepIn w (entry e) (l
     go (refuses k) s c f = let y : _≡_ {A = ℕ} 0 1 = cc in absurd (omega arith)
     go (gives rs) s c f =
         let v : Venue = venueOf w in
-        let t : T (isBook w) = laid-out w (entry e) (length b) rs s in
+        let t : T (isBook w) = accepted-call a .0 in
         let l : count ≡ length (reportsBytes rs) = cc in
         let z : step v (entry e) (length b) .answer ≡ gives rs = sym (ap (λ (x : Step). x .answer) (step-in w (entry e) (length b) t)) ∙ s in
         record {
