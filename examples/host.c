@@ -20,7 +20,7 @@ static void watch(uint32_t step, uint32_t phase, uint32_t tape)
 {
     struct venue_watch_record record = {100000, phase};
     uint32_t answer = venue_watch(&record, step, tape);
-    printf("watch at %" PRIu32 ", phase %" PRIu32 ", tape price %" PRIu32 ": refusal %" PRIu32 ", phase %" PRIu32 "\n", step, phase, tape, venue_refusal(answer),
+    printf("watch at %" PRIu32 ", phase %" PRIu32 ", tape price %" PRIu32 ": refusal %" PRIu32 ", then phase %" PRIu32 "\n", step, phase, tape, venue_refusal(answer),
            record.phase);
 }
 

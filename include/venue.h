@@ -177,8 +177,8 @@ struct venue_watch_record {
     uint32_t phase;
 };
 
-/* A tape price at a step: in phases 0 and 2, a price that is 10% or more below the close makes phase 1. Any close is taken, and every other number stays as
-   it is in the place of the phase. The answer is 0, or a refusal, which leaves the record as it was:
+/* A tape price at a step: in phases 0 and 2, a price that is 10% or more below the close makes phase 1. Any close is taken. Any other
+   number in the place of the phase stays. The answer is 0, or a refusal, which leaves the record as it was:
    17  the step is neither VENUE_CENT nor VENUE_HALF_CENT; the price isn't looked at
     3  the price isn't legal at this step */
 uint32_t venue_watch(struct venue_watch_record *watch, uint32_t step, uint32_t price);

@@ -64,7 +64,7 @@ fn bad_steps() {
     try_watch(4_294_967_295, 100_000, 0, 1);
 }
 
-// On the day after a fall, at both steps: a new fall, and a price just above it.
+// Phase 2: a price just above a fall at both steps, and a fall at 50; and 3, which is no phase.
 fn carried_watches() {
     try_watch(100, 100_000, 2, 90_100);
     try_watch(50, 100_000, 2, 90_000);

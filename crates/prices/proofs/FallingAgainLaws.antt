@@ -48,15 +48,15 @@ unfolding phaseAfterTape
 as-before close phase p n = rw (ne-eqb phase 2 n, or-false (eqb phase 0))
 
 -- in phase 2 the restriction is on after a tape price, whether or not it starts a period
-on-in-2 : (close p : ℕ) → restrictionOn (phaseAfterTape close 2 p) ≡ restrictionOn (phaseBefore close 2 p)
+on-from-2 : (close p : ℕ) → restrictionOn (phaseAfterTape close 2 p) ≡ restrictionOn (phaseBefore close 2 p)
 unfolding phaseAfterTape restrictionOn pick
-on-in-2 close p = by-test (λ (x : ℕ). restrictionOn x ≡ true) (triggers close p) (λ t. refl) (λ t. refl)
+on-from-2 close p = by-test (λ (x : ℕ). restrictionOn x ≡ true) (triggers close p) (λ t. refl) (λ t. refl)
 
 on-as-before : (close phase p : ℕ) → restrictionOn (phaseAfterTape close phase p) ≡ restrictionOn (phaseBefore close phase p)
 on-as-before close phase p = go (eqb phase 2) refl
   where
     go : (b : Bool) → eqb phase 2 ≡ b → restrictionOn (phaseAfterTape close phase p) ≡ restrictionOn (phaseBefore close phase p)
-    go true e = rw (eqb→eq phase 2 (rw e tt)) (on-in-2 close p)
+    go true e = rw (eqb→eq phase 2 (rw e tt)) (on-from-2 close p)
     go false e = ap restrictionOn (as-before close phase p (neqb phase 2 (rw e tt)))
 
 -- the table of a function that gives the phase after the price

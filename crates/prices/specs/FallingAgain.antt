@@ -24,8 +24,9 @@ pub record PhaseTable (close p : ℕ) (after : ℕ → ℕ) : Type 0 where
   pub noFallStays : (phase : ℕ) → T (not (triggers close p)) → after phase ≡ phase
   -- every price leaves a number that is no phase alone
   pub noPhaseStays : (phase : ℕ) → 2 < phase → after phase ≡ phase
-  -- in every number but 2 as before; in 2 too the restriction is on after the price as it was before
+  -- in every number but 2 as before No. 6
   pub asBefore : (phase : ℕ) → (phase ≡ 2 → ⊥) → after phase ≡ phaseBefore close phase p
+  -- in every number, 2 among them, the restriction is on after the price exactly if it was before No. 6
   pub onAsBefore : (phase : ℕ) → restrictionOn (after phase) ≡ restrictionOn (phaseBefore close phase p)
 
 -- "A day end turns 1 into 2, and 2 or 0 into 0"; F6.1: after a fall, in whatever phase, "the next day end makes phase 2 again"

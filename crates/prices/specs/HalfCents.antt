@@ -25,7 +25,7 @@ isBidBefore b = eqb b 0 || (legalBefore b && leb b 99_999_900)
 abbrev pub permittedBefore : ℕ → ℕ
 permittedBefore b = pick (eqb b 0) 1 (pick (ltb b 10_000) (b + 1) (b + 100))
 
--- at a step of 100 all is as before: the three, the phase of a watch, and the answers
+-- at a step of 100 all is as before No. 2: the three, the prices at which a watch changes its phase, which it does by the rule of No. 6, and the answers
 pub record AsBefore : Type 0 where
   pub legal : (p : ℕ) → legal 100 p ≡ legalBefore p
   pub isBid : (b : ℕ) → isBid 100 b ≡ isBidBefore b

@@ -109,7 +109,6 @@ pub fn check(
     let Ok(reports) = answer else {
         return Ok(());
     };
-    ensure(count_on(reports) <= 1, "at most one report 5")?;
     let holds = RULE.holds(before.close, before, event, reports, after);
     ensure(holds, "the table of phases")?;
     match *event {

@@ -30,7 +30,7 @@ half-cent-sums = tt
 pub played : Played
 unfolding Tests.pick Tests.every Prices.isStep Prices.legal Prices.isBid Prices.permitted Restriction.triggers Restriction.phaseAfterTape Restriction.phaseAfterDayEnd Restriction.restrictionOn Orders.find Orders.ifSame Orders.restingShares Orders.without Orders.insert Matching.reaches Matching.better Matching.betterOf Matching.bestFrom Matching.best Matching.counterparty Matching.execution Matching.afterTrade Matching.meeting Matching.matchingWith Matching.matchingUpTo Matching.matching order-conditions.idsRise order-conditions.stampsDiffer order-conditions.soundOrder Market.restricted Market.permittedNow Working.limitOf Working.followsBid Working.lifeOf Working.workingPrice Working.orderOf Working.remainder Working.afterRemainder Working.work Pass.displayedClear Pass.moveDown Pass.slideOnce Pass.slideDown Pass.maySlide Pass.moveOf Pass.afterMove Pass.passOne Pass.passOver Venue.opened Venue.entering Venue.effectOfEntry Venue.effectOfCancel Venue.thePass Venue.restrictionReport Venue.effectOfDayEnd Venue.effectOf Sound.sound Refusals.refuseUnless Refusals.firstOf Refusals.refusalOfTerms Refusals.refusalOfCodes Refusals.refusalOfPlace Refusals.rests Refusals.refusalOfKind Refusals.refusal Run.stepUnless Run.step Run.run
 played =
-    record { theDay = refl; clearStays = refl; hiddenMoves = refl; slidingMatches = refl; newStamp = refl; notClear = refl; onceOnly = refl; marketDay = refl; limitOne = refl; bidOfOne = refl; onceKept = refl; halfCentDay = refl; fallingDays = (refl, (refl, tt)); fallingWithOrder = refl }
+    record { theDay = refl; clearStays = refl; hiddenMoves = refl; slidingMatches = refl; newStamp = refl; notClear = refl; onceOnly = refl; marketDay = refl; limitOne = refl; bidOfOne = refl; onceKept = refl; halfCentDay = refl; fallingDays = (refl, (refl, tt)); secondFall = refl }
 
 pub codes-in-order : CodesInOrder
 unfolding Tests.pick Tests.every Prices.isStep Prices.legal Prices.isBid order-conditions.idsRise order-conditions.stampsDiffer Venue.opened Sound.sound Refusals.refuseUnless Refusals.firstOf Refusals.refusalOfTerms Refusals.refusalOfCodes Refusals.refusalOfPlace Refusals.refusalOfKind Refusals.refusal Run.stepUnless Run.step Run.run

@@ -15,7 +15,8 @@ use Rattle.numbers.specs.SevenBit.{bytesOfAll, overwrite}
 use Rattle.numbers.proofs.TestLaws.{by-test, T-true}
 use Rattle.numbers.proofs.ByteLaws.{bytes-last}
 use Rattle.prices.specs.Prices.{isStep, legal}
-use Rattle.prices.specs.Restriction.{triggers, phaseAfterTape, phaseAfterDayEnd}
+use Rattle.prices.specs.Restriction.{triggers, phaseAfterTape, phaseAfterDayEnd, restrictionOn}
+use Rattle.prices.proofs.RestrictionLaws.{off-in-0, on-in-1, on-in-2}
 use Rattle.prices.proofs.FallingAgainLaws.{same-day-stays, no-fall-stays, falls, day-ends, falling-again}
 use Rattle.book.specs.declared.Order.{Order}
 use Rattle.book.specs.rules.Orders.{find}
@@ -37,10 +38,10 @@ use Rattle.engine.specs.rules.Sound.{mostEvents, sound}
 use Rattle.engine.specs.rules.Refusals.{refuseUnless, refusalOfKind, leastBuffer, refusal}
 use Rattle.engine.specs.rules.Run.{Step, stepUnless, step, Call, Run, run}
 use Rattle.engine.specs.rules.Records.{reportBytes, reportsBytes}
-use Rattle.engine.specs.rules.Answers.{bufferAfter}
+use Rattle.engine.specs.rules.Answers.{countOf, bufferAfter}
 use Rattle.engine.specs.rules.Layout.{venueOf, stepIn}
 use Rattle.engine.specs.claims.Calls.{Applied, AppliedCall, Chain}
-use Rattle.engine.specs.claims.FallingAgain.{inPhase, tapeStep, TapeTable, TapeEvents, TapeLeaves, TapeCallTable, TapeCalls, PassAsBefore, Falls, noFalls, fallsAfter, fallsAnswered, fallsFrom, phaseBy, phaseReportsDue, phaseReports, ReportsPhase, AllReportPhase, RestrictedByFalls, CallsByFalls, RestrictedByFallsInCalls, phasesTold, SlumpRestricted}
+use Rattle.engine.specs.claims.FallingAgain.{inPhase, tapeStep, TapeTable, TapeEvents, tapeBytes, TapeLeaves, TapeCallTable, TapeCalls, PassAsBefore, Falls, noFalls, fallsAfter, fallsAnswered, fallsFrom, phaseBy, phaseReportsDue, phaseReports, ReportsPhase, AllReportPhase, RestrictedByFalls, CallsByFalls, RestrictedByFallsInCalls, phasesTold, SlumpRestricted}
 use Rattle.engine.proofs.refinement.StepLaws.{reports-append}
 use Rattle.engine.proofs.refinement.QuoteLaws.{restriction-same, restriction-new}
 use Rattle.engine.proofs.requests.PassLaws.{same-pass}
@@ -91,16 +92,22 @@ module _ {w w′ b b′ : List ℕ} {p count : ℕ} (a : Applied w (tape p) b (g
   abbrev known : TapeTable (venueOf w) p (length b)
   known = tape-events (venueOf w) p (length b) (accepted-call a .1)
 
-  leaves : (first : List Report) {k : ℕ} {bytes : List ℕ} → reportsBytes first ≡ bytes → step (venueOf w) (tape p) (length b) ≡ tapeStep first k (venueOf w) → TapeLeaves bytes k w b w′ b′
+  leaves : (first : List Report) {k : ℕ} {bytes : List ℕ} → reportsBytes first ≡ bytes → step (venueOf w) (tape p) (length b) ≡ tapeStep first k (venueOf w) → TapeLeaves bytes k w b count w′ b′
   unfolding venueOf
-  leaves first {k} r s =
+  leaves first {k} {bytes} r s =
       let e : stepIn w (tape p) (length b) ≡ tapeStep first k (venueOf w) = step-in w (tape p) (length b) (accepted-call a .0) ∙ s in
+      let all : reportsBytes (first ++ thePass (inPhase k (venueOf w .market)) (venueOf w) .reports) ≡ tapeBytes bytes k w = rw (← r) (reports-append first _) in
+      let answered : gives count ≡ countOf (tapeStep first k (venueOf w) .answer) = a .answers ∙ ap (λ (x : Step). countOf (x .answer)) e in
+      let left : venueOf w′ ≡ tapeStep first k (venueOf w) .venue = a .venue ∙ ap (λ (x : Step). x .venue) e in
+      let number : count ≡ length (reportsBytes (first ++ thePass (inPhase k (venueOf w .market)) (venueOf w) .reports)) = cc in
       record {
-        phase = ap (λ (v : Venue). v.market.phase) (a .venue ∙ ap (λ (x : Step). x .venue) e);
-        bytes = a .buffer ∙ ap (λ (x : Step). bufferAfter b (x .answer)) e ∙ ap (overwrite b 0) (rw (← r) (reports-append first _));
+        counted = number ∙ ap length all;
+        bytes = a .buffer ∙ ap (λ (x : Step). bufferAfter b (x .answer)) e ∙ ap (overwrite b 0) all;
+        phase = ap (λ (v : Venue). v.market.phase) left;
+        venue = left;
       }
 
-  tape-call-table : TapeCallTable p w b w′ b′
+  tape-call-table : TapeCallTable p w b count w′ b′
   unfolding venueOf
   tape-call-table =
       record {
@@ -130,40 +137,40 @@ phase-append (repriced i p s ∷ xs) ys = phase-append xs ys
 phase-append (restrictionStarts ∷ xs) ys = ap (λ (rs : List Report). restrictionStarts ∷ rs) (phase-append xs ys)
 phase-append (dayEnded k ∷ xs) ys = ap (λ (rs : List Report). dayEnded k ∷ rs) (phase-append xs ys)
 
-executions-none : (xs : List Execution) → phaseReports (map executed xs) ≡ []
-executions-none [] = refl
-executions-none (x ∷ xs) = executions-none xs
+executions-no-phase : (xs : List Execution) → phaseReports (map executed xs) ≡ []
+executions-no-phase [] = refl
+executions-no-phase (x ∷ xs) = executions-no-phase xs
 
-remainder-none : (r : Remainder) (o : Order) (os : List Order) → phaseReports ((afterRemainder r o os) .reports) ≡ []
+remainder-no-phase : (r : Remainder) (o : Order) (os : List Order) → phaseReports ((afterRemainder r o os) .reports) ≡ []
 unfolding afterRemainder
-remainder-none Filled o os = refl
-remainder-none (Cancelled cause) o os = refl
-remainder-none Rests o os = refl
+remainder-no-phase Filled o os = refl
+remainder-no-phase (Cancelled cause) o os = refl
+remainder-no-phase Rests o os = refl
 
-work-none : (o : Order) (os : List Order) → phaseReports ((work o os) .reports) ≡ []
+work-no-phase : (o : Order) (os : List Order) → phaseReports ((work o os) .reports) ≡ []
 unfolding work
-work-none o os =
-    phase-append (map executed (matching o os .executions)) _ ∙ rw (executions-none (matching o os .executions)) (remainder-none (remainder (matching o os .left)) (matching o os .left) (matching o os .orders))
+work-no-phase o os =
+    phase-append (map executed (matching o os .executions)) _ ∙ rw (executions-no-phase (matching o os .executions)) (remainder-no-phase (remainder (matching o os .left)) (matching o os .left) (matching o os .orders))
 
-move-none : (y : Move) (o : Order) (os : List Order) (s : ℕ) → phaseReports ((afterMove y o os s) .reports) ≡ []
+move-no-phase : (y : Move) (o : Order) (os : List Order) (s : ℕ) → phaseReports ((afterMove y o os s) .reports) ≡ []
 unfolding afterMove
-move-none Stay o os s = refl
-move-none Cancel o os s = refl
-move-none (Reprice p used) o os s = work-none _ _
+move-no-phase Stay o os s = refl
+move-no-phase Cancel o os s = refl
+move-no-phase (Reprice p used) o os s = work-no-phase _ _
 
-turn-none : (m : Market) (x : Option Order) (os : List Order) (s : ℕ) → phaseReports ((passOne m x os s) .reports) ≡ []
+turn-no-phase : (m : Market) (x : Option Order) (os : List Order) (s : ℕ) → phaseReports ((passOne m x os s) .reports) ≡ []
 unfolding passOne
-turn-none m none os s = refl
-turn-none m (some o) os s = move-none _ o os s
+turn-no-phase m none os s = refl
+turn-no-phase m (some o) os s = move-no-phase _ o os s
 
-pass-none : (m : Market) (is : List ℕ) (os : List Order) (s : ℕ) → phaseReports ((passOver m is os s) .reports) ≡ []
+pass-no-phase : (m : Market) (is : List ℕ) (os : List Order) (s : ℕ) → phaseReports ((passOver m is os s) .reports) ≡ []
 unfolding passOver
-pass-none m [] os s = refl
-pass-none m (i ∷ is) os s = phase-append ((passOne m (find i os) os s) .reports) _ ∙ rw (turn-none m (find i os) os s, pass-none m is)
+pass-no-phase m [] os s = refl
+pass-no-phase m (i ∷ is) os s = phase-append ((passOne m (find i os) os s) .reports) _ ∙ rw (turn-no-phase m (find i os) os s, pass-no-phase m is)
 
-the-pass-none : (m : Market) (v : Venue) → phaseReports ((thePass m v) .reports) ≡ []
+the-pass-no-phase : (m : Market) (v : Venue) → phaseReports ((thePass m v) .reports) ≡ []
 unfolding thePass
-the-pass-none m v = pass-none m _ (v .orders) (v .lastStamp)
+the-pass-no-phase m v = pass-no-phase m _ (v .orders) (v .lastStamp)
 
 day-end-last : (os : List Order) (k : ℕ) → phaseReports (map cancelledAtEnd os ++ dayEnded k ∷ []) ≡ dayEnded k ∷ []
 day-end-last [] k = refl
@@ -174,22 +181,31 @@ day-end-last (o ∷ os) k = day-end-last os k
 phase-small : (f : Falls) → phaseBy f ≤ 2
 phase-small f = by-test (λ (x : ℕ). x ≤ 2) (f .today) (λ t. omega arith) (λ t. by-test (λ (x : ℕ). x ≤ 2) (f .dayBefore) (λ u. omega arith) (λ u. omega arith))
 
-tape-by : (f : Falls) (p : ℕ) → phaseAfterTape (f .close) (phaseBy f) p ≡ phaseBy (fallsAfter (tape p) f)
+tape-by-falls : (f : Falls) (p : ℕ) → phaseAfterTape (f .close) (phaseBy f) p ≡ phaseBy (fallsAfter (tape p) f)
 unfolding pick
-tape-by f p = go (triggers (f .close) p) refl
+tape-by-falls f p = go (triggers (f .close) p) refl
   where
     go : (b : Bool) → triggers (f .close) p ≡ b → phaseAfterTape (f .close) (phaseBy f) p ≡ phaseBy (fallsAfter (tape p) f)
     go true e = falls (f .close) (phaseBy f) p (phase-small f) (rw e tt) ∙ rw (e, or-true (f .today))
     go false e = no-fall-stays (f .close) (phaseBy f) p (rw e tt) ∙ rw (e, or-false (f .today))
 
-day-end-by : (f : Falls) (c : ℕ) → phaseAfterDayEnd (phaseBy f) ≡ phaseBy (fallsAfter (dayEnd c) f)
+day-end-by-falls : (f : Falls) (c : ℕ) → phaseAfterDayEnd (phaseBy f) ≡ phaseBy (fallsAfter (dayEnd c) f)
 unfolding pick
-day-end-by f c = go (f .today) (f .dayBefore)
+day-end-by-falls f c = go (f .today) (f .dayBefore)
   where
     go : (a b : Bool) → phaseAfterDayEnd (pick a 1 (pick b 2 0)) ≡ pick a 2 0
     go true b = day-ends .carried
     go false true = day-ends .ends
     go false false = day-ends .off
+
+on-by-falls : (f : Falls) → restrictionOn (phaseBy f) ≡ (f .today || f .dayBefore)
+unfolding pick
+on-by-falls f = go (f .today) (f .dayBefore)
+  where
+    go : (a b : Bool) → restrictionOn (pick a 1 (pick b 2 0)) ≡ (a || b)
+    go true b = on-in-1
+    go false true = on-in-2
+    go false false = off-in-0
 
 -- what is known of the falls agrees with the market
 record Agrees (m : Market) (f : Falls) : Type 0 where
@@ -200,8 +216,8 @@ market-agrees : (e : Event) (m : Market) (f : Falls) → Agrees m f → Agrees (
 market-agrees (entry e) m f h = h
 market-agrees (cancel i) m f h = h
 market-agrees (bid b) m f h = record { close = h .close; phase = h .phase }
-market-agrees (tape p) m f h = record { close = h .close; phase = rw (h .close, h .phase) (tape-by f p) }
-market-agrees (dayEnd c) m f h = record { close = refl; phase = rw (h .phase) (day-end-by f c) }
+market-agrees (tape p) m f h = record { close = h .close; phase = rw (h .close, h .phase) (tape-by-falls f p) }
+market-agrees (dayEnd c) m f h = record { close = refl; phase = rw (h .phase) (day-end-by-falls f c) }
 
 -- the reports that are due
 
@@ -223,34 +239,34 @@ restriction-due k m f p = go (f .today) (f .dayBefore) (triggers (f .close) p)
 
 reports-due : (v : Venue) (e : Event) (f : Falls) → Agrees (v .market) f → phaseReports ((effectOf (marketAfter e (v .market)) v e) .reports) ≡ phaseReportsDue e f
 unfolding effectOf entering effectOfEntry effectOfCancel effectOfDayEnd pick
-reports-due v (entry e) f h = work-none _ (v .orders)
+reports-due v (entry e) f h = work-no-phase _ (v .orders)
 reports-due v (cancel i) f h = refl
-reports-due v (bid b) f h = the-pass-none _ v
+reports-due v (bid b) f h = the-pass-no-phase _ v
 reports-due v (tape p) f h =
     let m : Market = marketAfter (tape p) (v .market) in
-    phase-append (restrictionReport (v .market) m) _ ∙ rw (the-pass-none m v, append-nil) (restriction-due (v .market) m f p (h .phase) (market-agrees (tape p) (v .market) f h .phase))
-reports-due v (dayEnd c) f h = day-end-last (v .orders) _ ∙ ap (λ (k : ℕ). dayEnded k ∷ []) (rw (h .phase) (day-end-by f c))
+    phase-append (restrictionReport (v .market) m) _ ∙ rw (the-pass-no-phase m v, append-nil) (restriction-due (v .market) m f p (h .phase) (market-agrees (tape p) (v .market) f h .phase))
+reports-due v (dayEnd c) f h = day-end-last (v .orders) _ ∙ ap (λ (k : ℕ). dayEnded k ∷ []) (rw (h .phase) (day-end-by-falls f c))
 
 -- every list
 
-unless-by : (x : Option ℕ) (v : Venue) (e : Event) (f : Falls) → Agrees (v .market) f → let s : Step = stepUnless x v e in ReportsPhase f e (s .answer) × Agrees (s .venue .market) (fallsAnswered f e (s .answer))
+unless-by-falls : (x : Option ℕ) (v : Venue) (e : Event) (f : Falls) → Agrees (v .market) f → let s : Step = stepUnless x v e in ReportsPhase f e (s .answer) × Agrees (s .venue .market) (fallsAnswered f e (s .answer))
 unfolding stepUnless
-unless-by (some n) v e f h = (tt, h)
-unless-by none v e f h = (reports-due v e f h, market-agrees e (v .market) f h)
+unless-by-falls (some n) v e f h = (tt, h)
+unless-by-falls none v e f h = (reports-due v e f h, market-agrees e (v .market) f h)
 
-run-by : (cs : List Call) (v : Venue) (f : Falls) → Agrees (v .market) f → let r : Run = run v cs in AllReportPhase f (r .answered) × Agrees (r .venue .market) (fallsFrom f (r .answered))
+run-by-falls : (cs : List Call) (v : Venue) (f : Falls) → Agrees (v .market) f → let r : Run = run v cs in AllReportPhase f (r .answered) × Agrees (r .venue .market) (fallsFrom f (r .answered))
 unfolding run step
-run-by [] v f h = (tt, h)
-run-by (c ∷ cs) v f h =
-    let x = unless-by (refusal v (c .event) (c .buffer)) v (c .event) f h in
-    let y = run-by cs _ _ (x .1) in
+run-by-falls [] v f h = (tt, h)
+run-by-falls (c ∷ cs) v f h =
+    let x = unless-by-falls (refusal v (c .event) (c .buffer)) v (c .event) f h in
+    let y = run-by-falls cs _ _ (x .1) in
     ((x .0, y .0), y .1)
 
 pub restricted-by-falls : RestrictedByFalls
 unfolding opened pick
 restricted-by-falls s close v o cs =
-    let r = run-by cs v (noFalls close) (rw (opening-known s close v o .fresh) (record { close = refl; phase = refl })) in
-    record { phase = r .1 .phase; reports = r .0 }
+    let r = run-by-falls cs v (noFalls close) (rw (opening-known s close v o .fresh) (record { close = refl; phase = refl })) in
+    record { phase = r .1 .phase; on = rw (r .1 .phase) (on-by-falls (fallsFrom (noFalls close) (run v cs .answered))); reports = r .0 }
 
 -- of calls, from words that mean a fresh venue
 pub by-falls-from : (s close : ℕ) → T (isStep s) → T (legal s close) → {w₀ : List ℕ} → T (isBook w₀) → venueOf w₀ ≡ opened s close → (cs : List AppliedCall) (w′ : List ℕ) → Chain w₀ cs w′ → CallsByFalls close cs w′
@@ -308,4 +324,4 @@ slump-restricted v t d (x ∷ ds) m (l, falling, r, later) =
     let k : T (sound u) = subst (λ (s : Step). T (sound (s .venue))) a (step-sound v (tape (x .price)) leastBuffer t) in
     let b : step u (dayEnd (x .close)) leastBuffer ≡ carriedStep (x .close) u = day-end-carries u k (omega arith) (x .close) r refl in
     let n : T (sound (carriedStep (x .close) u .venue)) = subst (λ (s : Step). T (sound (s .venue))) b (step-sound u (dayEnd (x .close)) leastBuffer k) in
-    rw (a, b, the-pass-none (inPhase 1 (v .market)) v, day-end-last (u .orders) 2, slump-restricted _ n (λ z. omega arith) ds (omega arith) later)
+    rw (a, b, the-pass-no-phase (inPhase 1 (v .market)) v, day-end-last (u .orders) 2, slump-restricted _ n (λ z. omega arith) ds (omega arith) later)

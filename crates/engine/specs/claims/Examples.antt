@@ -136,15 +136,15 @@ fallingReports =
     (restrictionStarts ∷ []) ∷ [] ∷ (dayEnded 2 ∷ []) ∷ [] ∷ (restrictionStarts ∷ []) ∷ [] ∷ (dayEnded 2 ∷ []) ∷ (dayEnded 0 ∷ []) ∷ (restrictionStarts ∷ []) ∷ []
 
 -- a short that rests while the price falls again
-abbrev pub fallingWithOrder : List Event
-fallingWithOrder =
+abbrev pub secondFallEvents : List Event
+secondFallEvents =
     tape 90_000 ∷ dayEnd 90_000 ∷ bid 80_000 ∷ entryOf 1 2 80_000 5 1 0 0 ∷ tape 81_000 ∷ tape 70_000 ∷ dayEnd 81_000 ∷ []
 
-abbrev pub orderReports : List (List Report)
-orderReports =
+abbrev pub secondFallReports : List (List Report)
+secondFallReports =
     (restrictionStarts ∷ []) ∷ (dayEnded 2 ∷ []) ∷ [] ∷ (accepted 1 1 80_100 ∷ []) ∷ (restrictionStarts ∷ []) ∷ [] ∷ (cancelled 1 5 4 ∷ dayEnded 2 ∷ []) ∷ []
 
--- the one day, for each of "Slides gone wrong" events and what the last of them reports, market orders, half cents, and falls at both steps
+-- the one day, for each of "Slides gone wrong" events and what the last of them reports, market orders, half cents, days of falls at both steps, and a short that rests through a second fall
 pub record Played : Type 0 where
   pub theDay : answersTo dayEvents ≡ map gives dayReports
   -- "Re-pricing a clear displayed order when the bid rises over it. It stays and may trade there."
@@ -168,7 +168,7 @@ pub record Played : Type 0 where
   pub onceKept : lastAnswerTo (restrictedDay (entryOf 1 2 0 5 1 0 1 ∷ bid 0 ∷ bid 90_500 ∷ [])) ≡ gives (repriced 1 91_000 2 ∷ [])
   pub halfCentDay : answersAt 50 halfCentEvents ≡ halfCentAnswers
   pub fallingDays : All (λ (s : ℕ). answersAt s fallingEvents ≡ map gives fallingReports) (100 ∷ 50 ∷ [])
-  pub fallingWithOrder : answersTo fallingWithOrder ≡ map gives orderReports
+  pub secondFall : answersTo secondFallEvents ≡ map gives secondFallReports
 
 -- entries with one or more bad fields (No. 3), and the refusal of the one that is looked for first: codes (mark, show, life, slide); an id alone and beside a
 -- code; a price and shares beside one

@@ -11,7 +11,7 @@ use Rattle.numbers.specs.Tests.{pick}
 use Rattle.numbers.specs.Answers.{Outcome, gives, refuses}
 use Rattle.numbers.specs.SevenBit.{overwrite}
 use Rattle.prices.specs.Prices.{isStep, legal}
-use Rattle.prices.specs.Restriction.{triggers}
+use Rattle.prices.specs.Restriction.{triggers, restrictionOn}
 use Rattle.prices.specs.FallingAgain.{phaseBefore}
 use Rattle.engine.specs.declared.Market.{Market}
 use Rattle.engine.specs.declared.Event.{Event}
@@ -32,7 +32,7 @@ use Rattle.engine.specs.claims.Calls.{Applied, AppliedCall, Chain, answe
 abbrev pub inPhase : ℕ → Market → Market
 inPhase k m = record { close = m.close; phase = k; bid = m.bid; step = m.step }
 
--- a tape event that leaves the phase k: it reports these first, and then what the pass does in that phase
+-- a tape event after which the phase is k: it reports these first, and then what the pass does in that phase
 abbrev pub tapeStep : List Report → ℕ → Venue → Step
 tapeStep first k v =
     let x : Effect = thePass (inPhase k (v .market)) v in
@@ -56,6 +56,7 @@ pub record TapeTable (v : Venue) (p n : ℕ) : Type 0 where
   pub fallsAgain : v.market.phase ≡ 2 → T (triggers (v.market.close) p) → step v (tape p) n ≡ tapeStep (restrictionStarts ∷ []) 1 v
   -- "In phase 1 it still leaves the phase alone, without report 5"
   pub sameDayStays : v.market.phase ≡ 1 → step v (tape p) n ≡ tapeStep [] 1 v
+  -- a price that doesn't meet the trigger leaves every phase alone
   pub noFallStays : T (not (triggers (v.market.close) p)) → step v (tape p) n ≡ tapeStep [] (v.market.phase) v
 
 abbrev pub TapeEvents : Type 0
@@ -63,19 +64,25 @@ TapeEvents = (v : Venue) (p n : ℕ) → refusal v (tape p) n ≡ none → TapeT
 
 -- the same of a call of apply on any words that accepts a tape price: word 1 is the close, word 2 the phase, and report 5 the byte 5
 
--- it leaves the phase k, and in the report buffer b these bytes first, then those of the pass in that phase
-pub record TapeLeaves (first : List ℕ) (k : ℕ) (w b w′ b′ : List ℕ) : Type 0 where
-  pub phase : getD w′ 2 0 ≡ k
-  pub bytes : b′ ≡ overwrite b 0 (first ++ reportsBytes (thePass (inPhase k (venueOf w .market)) (venueOf w) .reports))
+-- these bytes, and behind them those of the pass in the phase k
+abbrev pub tapeBytes : List ℕ → ℕ → List ℕ → List ℕ
+tapeBytes first k w = first ++ reportsBytes (thePass (inPhase k (venueOf w .market)) (venueOf w) .reports)
 
-pub record TapeCallTable (p : ℕ) (w b w′ b′ : List ℕ) : Type 0 where
-  pub starts : getD w 2 0 ≡ 0 → T (triggers (getD w 1 0) p) → TapeLeaves (5 ∷ []) 1 w b w′ b′
-  pub fallsAgain : getD w 2 0 ≡ 2 → T (triggers (getD w 1 0) p) → TapeLeaves (5 ∷ []) 1 w b w′ b′
-  pub sameDayStays : getD w 2 0 ≡ 1 → TapeLeaves [] 1 w b w′ b′
-  pub noFallStays : T (not (triggers (getD w 1 0) p)) → TapeLeaves [] (getD w 2 0) w b w′ b′
+-- the count answered, the report buffer b′ and the words w′ after it: these bytes first, and the phase k
+pub record TapeLeaves (first : List ℕ) (k : ℕ) (w b : List ℕ) (count : ℕ) (w′ b′ : List ℕ) : Type 0 where
+  pub counted : count ≡ length (tapeBytes first k w)
+  pub bytes : b′ ≡ overwrite b 0 (tapeBytes first k w)
+  pub phase : getD w′ 2 0 ≡ k
+  pub venue : venueOf w′ ≡ tapeStep [] k (venueOf w) .venue
+
+pub record TapeCallTable (p : ℕ) (w b : List ℕ) (count : ℕ) (w′ b′ : List ℕ) : Type 0 where
+  pub starts : getD w 2 0 ≡ 0 → T (triggers (getD w 1 0) p) → TapeLeaves (5 ∷ []) 1 w b count w′ b′
+  pub fallsAgain : getD w 2 0 ≡ 2 → T (triggers (getD w 1 0) p) → TapeLeaves (5 ∷ []) 1 w b count w′ b′
+  pub sameDayStays : getD w 2 0 ≡ 1 → TapeLeaves [] 1 w b count w′ b′
+  pub noFallStays : T (not (triggers (getD w 1 0) p)) → TapeLeaves [] (getD w 2 0) w b count w′ b′
 
 abbrev pub TapeCalls : Type 0
-TapeCalls = (w : List ℕ) (p : ℕ) (b : List ℕ) (count : ℕ) (w′ b′ : List ℕ) → Applied w (tape p) b (gives count) w′ b′ → TapeCallTable p w b w′ b′
+TapeCalls = (w : List ℕ) (p : ℕ) (b : List ℕ) (count : ℕ) (w′ b′ : List ℕ) → Applied w (tape p) b (gives count) w′ b′ → TapeCallTable p w b count w′ b′
 
 -- the pass after a tape price is in every phase what it was before No. 6: a new fall on the carried day changes the phase and brings report 5, and nothing else
 abbrev pub PassAsBefore : Type 0
@@ -142,9 +149,10 @@ abbrev pub AllReportPhase : Falls → List Answered → Type 0
 AllReportPhase f [] = Unit {0}
 AllReportPhase f (x ∷ xs) = ReportsPhase f (x .event) (x .answer) × AllReportPhase (fallsAnswered f (x .event) (x .answer)) xs
 
--- k is the phase after the list
+-- k is the phase after the list; the restriction is on exactly if a tape price met the trigger today or on the day before
 pub record ByFalls (close : ℕ) (xs : List Answered) (k : ℕ) : Type 0 where
   pub phase : k ≡ phaseBy (fallsFrom (noFalls close) xs)
+  pub on : let f : Falls = fallsFrom (noFalls close) xs in restrictionOn k ≡ (f .today || f .dayBefore)
   pub reports : AllReportPhase (noFalls close) xs
 
 -- for every step and close that open takes and every list of events, each lent a report buffer of any length
@@ -198,7 +206,7 @@ phasesTold v (e ∷ es) =
     let s : Step = step v e leastBuffer in
     phaseTold s ∷ phasesTold (s .venue) es
 
--- report 5 and phase 1 after each tape price, report 6 and phase 2 after each day end
+-- each tape price reports 5, and the phase is then 1; each day end reports 6 with 2, and the phase is then 2
 abbrev pub restrictedEachDay : List SlumpDay → List PhaseTold
 restrictedEachDay [] = []
 restrictedEachDay (d ∷ ds) =

@@ -1,5 +1,5 @@
 -- The venue, and what an accepted event does to it: document 01, "Orders", "Reports" and "Operations", and document 02,
--- No. 1 and No. 2. Assumes nothing.
+-- No. 1, No. 2 and No. 6. Assumes nothing.
 use Prim.Native.Nat.{ℕ, _+_}
 use mathlib.Core.List.{List, [], _∷_, _++_, map}
 use lib.Dec.{eqb}
@@ -54,7 +54,8 @@ effectOfCancel v i =
 unfoldable pub thePass : Market → Venue → Effect
 thePass m v = passOver m (map (λ (o : Order). o .id) (v .orders)) (v .orders) (v .lastStamp)
 
--- "5 restriction on, before the pass": where the tape price changed the phase
+-- "5 restriction on, before the pass": where the tape price changed the phase; No. 6: in phase 2 a price that meets the trigger "gives phase 1 and report 5.
+-- In phase 1 it still leaves the phase alone, without report 5"
 unfoldable pub restrictionReport : Market → Market → List Report
 restrictionReport before after = pick (eqb (before .phase) (after .phase)) [] (restrictionStarts ∷ [])
 

@@ -14,7 +14,7 @@ use Rattle.host.specs.claims.HostDays.{HostCall, HostChain, oneByOne}
 abbrev pub TapeCallsForHosts : Type 0
 TapeCallsForHosts =
     (w bytes b : List ℕ) (answer : ℕ) (w′ b′ : List ℕ) → HostApplied w bytes b answer w′ b′ → answer < 65_536 →
-    (p end : ℕ) → recordAt bytes 0 ≡ gives (record { value = tape p; end = end }) → TapeCallTable p w b w′ b′
+    (p end : ℕ) → recordAt bytes 0 ≡ gives (record { value = tape p; end = end }) → TapeCallTable p w b answer w′ b′
 
 -- any calls of venue_apply and venue_play from the words that venue_open leaves with the answer 0: the phase, and when reports 5 and 6 come, follow from the
 -- falls, read from the record bytes, the numbers, the report bytes and the ends
