@@ -212,7 +212,7 @@ restrictedEachDay [] = []
 restrictedEachDay (d ∷ ds) =
     record { answer = gives (restrictionStarts ∷ []); phase = 1 } ∷ record { answer = gives (dayEnded 2 ∷ []); phase = 2 } ∷ restrictedEachDay ds
 
--- from every sound venue record in which no price of the day has met the trigger, reached or not, for every number of days that it has events for
+-- from every sound venue record that isn't in phase 1, reached or not, for every number of days that it has events for
 abbrev pub SlumpRestricted : Type 0
 SlumpRestricted =
     (v : Venue) → T (sound v) → (v.market.phase ≡ 1 → ⊥) →
