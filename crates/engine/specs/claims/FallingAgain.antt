@@ -68,7 +68,8 @@ TapeEvents = (v : Venue) (p n : ℕ) → refusal v (tape p) n ≡ none → TapeT
 abbrev pub tapeBytes : List ℕ → ℕ → List ℕ → List ℕ
 tapeBytes first k w = first ++ reportsBytes (thePass (inPhase k (venueOf w .market)) (venueOf w) .reports)
 
--- the count answered, the report buffer b′ and the words w′ after it: these bytes first, and the phase k
+-- what the call leaves: the count answered and the report buffer b′, with these bytes first; the phase k in word 2; and the venue that the pass in that phase
+-- leaves, with one more accepted event
 pub record TapeLeaves (first : List ℕ) (k : ℕ) (w b : List ℕ) (count : ℕ) (w′ b′ : List ℕ) : Type 0 where
   pub counted : count ≡ length (tapeBytes first k w)
   pub bytes : b′ ≡ overwrite b 0 (tapeBytes first k w)
