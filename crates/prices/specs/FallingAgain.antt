@@ -29,7 +29,7 @@ pub record PhaseTable (close p : ℕ) (after : ℕ → ℕ) : Type 0 where
   -- in every number, 2 among them, the restriction is on after the price exactly if it was before No. 6
   pub onAsBefore : (phase : ℕ) → restrictionOn (after phase) ≡ restrictionOn (phaseBefore close phase p)
 
--- "A day end turns 1 into 2, and 2 or 0 into 0"; F6.1: after a fall, in whatever phase, "the next day end makes phase 2 again"
+-- "A day end turns 1 into 2, and 2 or 0 into 0"; so the day end after a fall, in whatever phase that was, makes phase 2
 pub record DayEndTable : Type 0 where
   pub carried : phaseAfterDayEnd 1 ≡ 2
   pub ends : phaseAfterDayEnd 2 ≡ 0
