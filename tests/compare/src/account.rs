@@ -247,6 +247,7 @@ mod tests {
             show: 1,
             life: 0,
             slide: 0,
+            owner: None,
         })
     }
 

@@ -143,6 +143,7 @@ mod tests {
             show: 1,
             life: 1,
             slide: 0,
+            owner: None,
         };
         let reports = [
             Report::Accepted {

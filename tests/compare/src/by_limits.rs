@@ -133,6 +133,7 @@ mod tests {
             used: false,
             clear: true,
             market: true,
+            owner: 0,
         };
         let before = Venue {
             phase: 1,

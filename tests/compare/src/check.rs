@@ -356,6 +356,7 @@ fn check_copy_out(venue: &Venue, spare: usize) -> Result<(), Fault> {
         used: 7,
         clear: 7,
         market: 7,
+        owner: 7,
     };
     let len = venue.orders.len();
     let mut run = vec![noise; (len + spare).saturating_sub(1)];

@@ -26,8 +26,9 @@ pub const fn condition(refusal: u32, name: &'static str, breaks: Breaks) -> Cond
 
 /// "Entry then: 3 price not legal; 4 shares; 5 mark, show, life or slide; 6 id not
 /// above the last accepted id (0 never is); 7 if 256 orders rest." In the place of
-/// the 5, "in the order mark, show, life, slide code, slide on the wrong mark".
-pub const CONDITIONS: [Condition; 9] = [
+/// the 5, "in the order mark, show, life, slide code, slide on the wrong mark"; "an
+/// owner outside its range is 21, after the slide codes", which kind 1 has none of.
+pub const CONDITIONS: [Condition; 10] = [
     condition(3, "price", |entry, venue| {
         entry.price != 0 && !is_legal(venue.step, entry.price)
     }),
@@ -40,6 +41,9 @@ pub const CONDITIONS: [Condition; 9] = [
     condition(19, "slide code", |entry, _| !matches!(entry.slide, 0..=3)),
     condition(20, "wrong mark", |entry, _| {
         entry.slide != 0 && entry.mark != 2
+    }),
+    condition(21, "owner", |entry, _| {
+        matches!(entry.owner, Some(0 | 65_536..))
     }),
     condition(6, "id", |entry, venue| entry.id <= venue.last_id),
     condition(7, "full book", |_, venue| venue.orders.len() == 256),
@@ -96,6 +100,7 @@ mod tests {
             show,
             life,
             slide,
+            owner: None,
         };
         check(&Venue::fresh(100, 100_000), &Event::Entry(entry), answer)
     }
@@ -156,7 +161,7 @@ mod tests {
     fn other_refusals() -> Vec<Wrong> {
         let mut wrong = Vec::new();
         for (place, condition) in CONDITIONS.into_iter().enumerate() {
-            for refusal in [3, 4, 18, 5, 19, 20, 6, 7] {
+            for refusal in [3, 4, 18, 5, 19, 20, 21, 6, 7] {
                 if refusal != condition.refusal {
                     let name = format!("{refusal} for {}", condition.name);
                     wrong.push((

@@ -116,6 +116,7 @@ mod tests {
             show: 1,
             life: 1,
             slide: 0,
+            owner: None,
         };
         check(&before, &Event::Entry(entry), Ok(reports), &before)
     }

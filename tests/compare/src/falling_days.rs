@@ -208,6 +208,7 @@ fn short(id: u32, price: u32) -> Order {
         used: false,
         clear: true,
         market: false,
+        owner: 0,
     }
 }
 

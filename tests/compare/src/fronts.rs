@@ -106,6 +106,7 @@ fn entry_of(asked: &Question) -> Entry {
         show: 1,
         life: 0,
         slide: 0,
+        owner: None,
     }
 }
 
@@ -201,7 +202,7 @@ mod tests {
             ("18 before 3", conditions(&[2, 0, 1])),
             ("no 3", conditions(&[1, 2])),
             ("no 4", conditions(&[0, 2])),
-            ("7 for a full book", conditions(&[0, 1, 2, 8])),
+            ("7 for a full book", conditions(&[0, 1, 2, 9])),
             (
                 "3 for a market price",
                 also(condition(3, "market", |entry, _| entry.price == 0)),

@@ -77,6 +77,7 @@ fn made_up_order(rng: &mut Rng, market: &Market, id: u32, stamp: u32) -> Order {
         used: rng.one_in(2),
         clear: rng.one_in(2),
         market: lowest && !rng.one_in(3),
+        owner: 0,
     }
 }
 

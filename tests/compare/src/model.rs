@@ -1,4 +1,4 @@
-//! A plain implementation of document 01 and, of document 02, of No. 1 to No. 6,
+//! A plain implementation of document 01 and, of document 02, of No. 1 to No. 7,
 //! written from the papers and the readings alone. Comments in quotation marks are
 //! sentences of the papers, letters with numbers (A1, F1.3) are readings.
 
@@ -52,6 +52,7 @@ pub enum Refusal {
     Mark = 18,
     SlideCode = 19,
     SlideOnMark = 20,
+    Owner = 21,
 }
 
 impl Refusal {

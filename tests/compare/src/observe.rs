@@ -188,5 +188,6 @@ fn any_record(rng: &mut Rng) -> OrderRecord {
         used: rng.word(),
         clear: rng.word(),
         market: rng.word(),
+        owner: rng.word(),
     }
 }

@@ -441,6 +441,7 @@ mod tests {
             used: false,
             clear: false,
             market: false,
+            owner: 0,
         };
         Venue {
             phase: 2,

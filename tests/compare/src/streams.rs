@@ -178,6 +178,7 @@ impl Market {
                 SHORT => rng.pick(&[0, 0, 1, 1, 2, 3]),
                 _ => 0,
             },
+            owner: None,
         }
     }
 
@@ -215,6 +216,7 @@ fn nonsense(rng: &mut Rng, sound: Event, venue: &Venue) -> Event {
             show: odd_number(rng),
             life: odd_number(rng),
             slide: odd,
+            owner: None,
         }),
         (sound, 6..8) => miss(rng, sound),
         (Event::Entry(entry), 8..) => Event::Entry(spoil_codes(rng, entry, odd, venue)),
@@ -484,9 +486,9 @@ fn buffer_len(rng: &mut Rng) -> usize {
     }
 }
 
-/// The longest record, of an entry, has a kind and seven fields of at most five
+/// The longest record, of an entry, has a kind and eight fields of at most five
 /// bytes.
-const LONGEST_RECORD: usize = 36;
+const LONGEST_RECORD: usize = 41;
 
 pub fn push_record(bytes: &mut Vec<u8>, event: &Event) {
     let at = bytes.len();

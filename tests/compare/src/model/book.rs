@@ -22,6 +22,10 @@ pub const DISPLAYED: u32 = 1;
 pub const DAY: u32 = 0;
 pub const IMMEDIATE: u32 = 1;
 
+/// "0 to 65,535 in a sound venue record"; 0 is no firm's.
+pub const NO_OWNER: u32 = 0;
+pub const HIGHEST_OWNER: u32 = 65_535;
+
 /// A resting order: the entry's fields and what "The venue adds". "A resting
 /// order's shares are those left." Market: "a resting market short stays where
 /// it is, so the order record says that it is one".
@@ -41,6 +45,7 @@ pub struct Order {
     pub used: bool,
     pub clear: bool,
     pub market: bool,
+    pub owner: u32,
 }
 
 impl Order {
@@ -57,12 +62,18 @@ impl Order {
             && suits_mark(self.slide, self.mark)
             && is_bid(step, self.entry_bid)
             && (!self.market || self.may_be_market())
+            && self.owner <= HIGHEST_OWNER
     }
 
     /// "said of anything but a short with limit 1, that breaks the venue
     /// record"; neither the phase nor the present price matters (F1.4).
     fn may_be_market(&self) -> bool {
         self.mark == SHORT && self.limit == LOWEST
+    }
+
+    /// "a resting order of the same owner above 0"
+    pub(super) fn is_of_same_firm(&self, working: &Order) -> bool {
+        self.owner != NO_OWNER && self.owner == working.owner
     }
 
     /// Whether a working buy reaches it, and whether a working sell does: "opposite
@@ -107,6 +118,7 @@ pub struct OrderRecord {
     pub used: u32,
     pub clear: u32,
     pub market: u32,
+    pub owner: u32,
 }
 
 impl From<&Order> for OrderRecord {
@@ -126,6 +138,7 @@ impl From<&Order> for OrderRecord {
             used: order.used.into(),
             clear: order.clear.into(),
             market: order.market.into(),
+            owner: order.owner,
         }
     }
 }
@@ -233,6 +246,7 @@ mod tests {
             used: false,
             clear: true,
             market: false,
+            owner: 0,
         }
     }
 

@@ -75,7 +75,8 @@ fn read_fields<const N: usize>(bytes: &[u8], mut at: usize) -> Result<([u32; N],
 }
 
 /// "Entry: id; mark; price, which is its limit; shares; show; life; slide". "A
-/// price of 0 in an entry means market."
+/// price of 0 in an entry means market." The owner stands in kind 6 alone, "after
+/// the slide"; any number there, as the reader asks only for 32 bits (F7.4).
 #[derive(Clone, Copy, Debug, PartialEq, Eq)]
 pub struct Entry {
     pub id: u32,
@@ -85,6 +86,7 @@ pub struct Entry {
     pub show: u32,
     pub life: u32,
     pub slide: u32,
+    pub owner: Option<u32>,
 }
 
 impl Entry {
@@ -97,6 +99,15 @@ impl Entry {
             show,
             life,
             slide,
+            owner: None,
+        }
+    }
+
+    fn with_owner(fields: [u32; 8]) -> Self {
+        let [id, mark, price, shares, show, life, slide, owner] = fields;
+        Entry {
+            owner: Some(owner),
+            ..Entry::of([id, mark, price, shares, show, life, slide])
         }
     }
 
@@ -115,7 +126,7 @@ impl Entry {
 }
 
 /// "kind 1 entry (fields as listed), 2 cancel (id), 3 bid, 4 tape, 5 day end
-/// (price)"
+/// (price)", and "Event kind 6 is an entry with an owner".
 #[derive(Clone, Copy, Debug, PartialEq, Eq)]
 pub enum Event {
     Entry(Entry),
@@ -128,14 +139,14 @@ pub enum Event {
 /// The numbers of a record or a report: kind first, then the fields.
 #[derive(Clone, Copy)]
 pub struct Numbers {
-    list: [u32; 8],
+    list: [u32; 9],
     len: usize,
 }
 
 impl Numbers {
     #[inline]
     fn new<const N: usize>(numbers: [u32; N]) -> Self {
-        let mut list = [0; 8];
+        let mut list = [0; 9];
         list[..N].copy_from_slice(&numbers);
         Numbers { list, len: N }
     }
@@ -160,7 +171,14 @@ impl Event {
     pub fn numbers(&self) -> Numbers {
         match *self {
             Event::Entry(e) => {
-                Numbers::new([1, e.id, e.mark, e.price, e.shares, e.show, e.life, e.slide])
+                let fields = [e.id, e.mark, e.price, e.shares, e.show, e.life, e.slide];
+                let [id, mark, price, shares, show, life, slide] = fields;
+                match e.owner {
+                    None => Numbers::new([1, id, mark, price, shares, show, life, slide]),
+                    Some(owner) => {
+                        Numbers::new([6, id, mark, price, shares, show, life, slide, owner])
+                    }
+                }
             }
             Event::Cancel { id } => Numbers::new([2, id]),
             Event::Bid { price } => Numbers::new([3, price]),
@@ -177,6 +195,10 @@ pub fn read_record(bytes: &[u8], at: usize) -> Result<(Event, usize), Refusal> {
     if kind == 1 {
         let (fields, end) = read_fields(bytes, at)?;
         return Ok((Event::Entry(Entry::of(fields)), end));
+    }
+    if kind == 6 {
+        let (fields, end) = read_fields(bytes, at)?;
+        return Ok((Event::Entry(Entry::with_owner(fields)), end));
     }
     let of_field = match kind {
         2 => |id| Event::Cancel { id },

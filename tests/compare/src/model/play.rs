@@ -241,7 +241,7 @@ mod tests {
         let cases: [(&[u8], Refusal); 4] = [
             (&[3, 0xF8, 0xC6], Refusal::MissingByte),
             (&[3, 0x80, 0], Refusal::BadNumber),
-            (&[6, 1], Refusal::Kind),
+            (&[7, 1], Refusal::Kind),
             (&[2, 0x80, 0x80, 0x80, 0x80, 0x10], Refusal::LargeField),
         ];
         for (record, refusal) in cases {

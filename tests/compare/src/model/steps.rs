@@ -53,6 +53,7 @@ fn of_cents(step: u32) -> Venue {
         used: false,
         clear: true,
         market: false,
+        owner: 0,
     };
     Venue {
         phase: 1,

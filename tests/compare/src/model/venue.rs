@@ -1,9 +1,9 @@
 //! The venue: open, the record check, the refusals in their order and the
-//! five kinds of event.
+//! six kinds of event.
 
 use super::book::{
     best_opposite, is_slide, suits_mark, Order, BUY, CONTINUOUS, DISPLAYED, HIGHEST_MARK,
-    IMMEDIATE, ONCE, OPT_OUT, PLACES, SHORT,
+    HIGHEST_OWNER, IMMEDIATE, NO_OWNER, ONCE, OPT_OUT, PLACES, SHORT,
 };
 use super::fill::Question;
 use super::form::{Entry, Event, Report, ReportWriter};
@@ -24,6 +24,7 @@ const ASKED_FOR: u32 = 1;
 const NOT_IMMEDIATE: u32 = 2;
 const OPTED_OUT: u32 = 3;
 const DAY_END: u32 = 4;
+const SAME_FIRM: u32 = 5;
 
 /// Whether an event or a question looks for refusal 16. Skipping is for the benchmark only,
 /// on venues that are known to be sound.
@@ -179,10 +180,12 @@ impl Venue {
     }
 
     /// "Entry then: 3 price not legal; 4 shares; 5 mark, show, life or slide; 6
-    /// id not above the last accepted id (0 never is); 7 if 256 orders rest."
+    /// id not above the last accepted id (0 never is); 7 if 256 orders rest." And
+    /// "an owner outside its range is 21, after the slide codes" (F7.3).
     fn refuse_entry(&self, entry: &Entry) -> Result<(), Refusal> {
         self.refuse_asked(&entry.question())?;
         refuse_codes(entry)?;
+        refuse_owner(entry)?;
         refuse_unless(entry.id > self.last_id, Refusal::Id)?;
         refuse_unless(self.orders.len() < PLACES, Refusal::Full)
     }
@@ -229,6 +232,7 @@ impl Venue {
             used: false,
             clear: self.bid == 0 || self.bid < price,
             market: self.is_market_short(entry),
+            owner: entry.owner.unwrap_or(NO_OWNER),
         };
         self.last_id = order.id;
         reports.put(Report::Accepted {
@@ -296,12 +300,18 @@ impl Venue {
 
     /// "while shares remain, trade with the best opposite order that the
     /// working price reaches (equal counts), for the smaller amount, at the
-    /// resting order's price"
+    /// resting order's price". And "Where a working order would trade with a resting
+    /// order of the same owner above 0, the resting one is cancelled (cause 5) and
+    /// matching goes on": the best is looked for anew (F7.1).
     fn trade(&mut self, working: &mut Order, reports: &mut ReportWriter) {
         while working.shares > 0 {
             let Some(at) = best_opposite(&self.orders, working) else {
                 return;
             };
+            if self.orders[at].is_of_same_firm(working) {
+                self.cancel(at, SAME_FIRM, reports);
+                continue;
+            }
             let resting = &mut self.orders[at];
             let shares = working.shares.min(resting.shares);
             working.shares -= shares;
@@ -447,6 +457,13 @@ fn refuse_codes(entry: &Entry) -> Result<(), Refusal> {
     refuse_unless(suits_mark(entry.slide, entry.mark), Refusal::SlideOnMark)
 }
 
+/// "an owner, 1 to 65,535"; "kind 1 has owner 0", and can't be 21 (F7.3).
+fn refuse_owner(entry: &Entry) -> Result<(), Refusal> {
+    let firms = NO_OWNER + 1..=HIGHEST_OWNER;
+    let sound = entry.owner.is_none_or(|owner| firms.contains(&owner));
+    refuse_unless(sound, Refusal::Owner)
+}
+
 fn refuse_unless(condition: bool, refusal: Refusal) -> Result<(), Refusal> {
     if condition {
         Ok(())
@@ -483,6 +500,7 @@ mod tests {
             show: 0,
             life: 0,
             slide: ONCE,
+            owner: None,
         };
         assert!(apply(&mut venue, Event::Entry(entry)).is_ok());
         venue
@@ -512,6 +530,7 @@ mod tests {
             used: false,
             clear: true,
             market: true,
+            owner: 0,
         };
         let mut venue = with_market_short(91_000);
         assert_eq!(venue.orders, [short]);
