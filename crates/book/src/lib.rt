@@ -9,8 +9,8 @@ pub mod sound;
 pub mod trade;
 pub mod words;
 
-// An order as document 01, "Orders", and document 02, No. 1, have it: the fields of its entry, then what the venue adds. `limit` is what counts as the
-// limit of the entry, `price` the present price, and `shares` those left.
+// An order as document 01, "Orders", and document 02, No. 1 and No. 7, have it: the fields of its entry, then what the venue adds, then the owner. `limit`
+// is what counts as the limit of the entry, `price` the present price, and `shares` those left.
 pub struct Order {
     pub id: u32,
     // 0 buy, 1 long sell, 2 short, 3 short exempt
@@ -35,6 +35,8 @@ pub struct Order {
     pub clear: bool,
     // a market short (No. 1): it follows the bid, and stays while there is none
     pub market: bool,
+    // the firm that sent it (No. 7), 1 to 65,535; 0 where its entry named none
+    pub owner: u32,
 }
 
 // An order record of the run that a host lends for copy out and depth: the same fields, one 32-bit word each, so any bytes are a record. Copy out
@@ -55,6 +57,7 @@ pub struct OrderRecord {
     pub used: u32,
     pub clear: u32,
     pub market: u32,
+    pub owner: u32,
 }
 
 // Where an order stands in the book, counted from 0.

@@ -110,3 +110,13 @@ pub fn best(w: &[u32], o: Order) -> Position
     }
     Position::At(b)
 }
+
+// Whether both orders are of the same owner above 0.
+pub fn same_owner(o: Order, x: Order) -> bool
+    ensures { λ r. ⌜ r ≡ Matching.sameOwner o x ⌝ }
+{
+    if o.owner > 0 {
+        return o.owner == x.owner;
+    }
+    false
+}

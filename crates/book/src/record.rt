@@ -27,6 +27,7 @@ fn record_of(o: Order) -> OrderRecord
         used: words::flag_word(o.used),
         clear: words::flag_word(o.clear),
         market: words::flag_word(o.market),
+        owner: o.owner,
     }
 }
 

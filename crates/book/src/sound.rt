@@ -14,10 +14,16 @@ const BUCKETS: u32 = 512;
 
 pub const MOST_SHARES: u32 = 1_000_000;
 
-fn codes_sound(mark: u32, life: u32, slide: u32) -> bool
-    ensures { λ r. ⌜ r ≡ codesSound mark life slide ⌝ }
+pub const MOST_OWNER: u32 = 65_535;
+
+// Whether mark, life, slide and owner are in range.
+fn codes_sound(mark: u32, life: u32, slide: u32, owner: u32) -> bool
+    ensures { λ r. ⌜ r ≡ codesSound mark life slide owner ⌝ }
 {
     if life > 0 {
+        return false;
+    }
+    if owner > MOST_OWNER {
         return false;
     }
     if mark == 2 {
@@ -69,6 +75,7 @@ fn order_sound(w: &[u32], i: usize, step: u32, last_id: u32, last_stamp: u32) ->
                 words::word_at(w, i, words::MARK),
                 words::word_at(w, i, words::LIFE),
                 words::word_at(w, i, words::SLIDE),
+                words::word_at(w, i, words::OWNER),
             ) {
                 return prices_sound(
                     step,

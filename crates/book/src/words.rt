@@ -11,14 +11,14 @@ ghost use Rattle.book.specs.steps.WordSteps.{Row, Copied, Stored};
 // The words of the header and of an order, the places for orders, and the words of a venue.
 const HEADER: usize = 16;
 
-pub(crate) const WIDTH: usize = 14;
+pub(crate) const WIDTH: usize = 15;
 
 pub const PLACES: usize = 256;
 
 pub const VENUE: usize = HEADER + PLACES * WIDTH;
 
 // The number of this layout, and the header word that has it.
-pub const LAYOUT: u32 = 3;
+pub const LAYOUT: u32 = 4;
 
 pub const LAYOUT_WORD: usize = 15;
 
@@ -50,6 +50,8 @@ pub(crate) const USED: usize = 11;
 pub(crate) const CLEAR: usize = 12;
 
 pub(crate) const MARKET: usize = 13;
+
+pub(crate) const OWNER: usize = 14;
 
 pub(crate) fn wide(x: u32) -> usize
     ensures { λ r. ⌜ r ≡ x ⌝ }
@@ -124,6 +126,7 @@ pub fn load(w: &[u32], i: usize) -> Order
         used: w[p + USED] == 1,
         clear: w[p + CLEAR] == 1,
         market: w[p + MARKET] == 1,
+        owner: w[p + OWNER],
     }
 }
 
@@ -159,6 +162,7 @@ fn row_of(o: Order) -> [u32; WIDTH]
         u,
         c,
         m,
+        o.owner,
     ]
 }
 

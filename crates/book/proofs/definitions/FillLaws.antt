@@ -15,10 +15,11 @@ use Rattle.numbers.specs.Tests.{All}
 use Rattle.numbers.proofs.TestLaws.{by-test, pick-yes, pick-no, tests}
 use Rattle.book.specs.declared.Order.{Order}
 use Rattle.book.specs.rules.Orders.{reduced, without}
-use Rattle.book.specs.rules.Matching.{reaches, afterTrade, meeting, Matched, matching}
+use Rattle.book.specs.rules.Matching.{reaches, afterTrade, Meeting, meeting, Matched, matching}
 use Rattle.book.specs.rules.Fill.{sharesReached, allReached, suffices, leastBelow, frontLength, frontRead}
 use Rattle.book.proofs.definitions.OrderLaws.{Distinct, TakenOut, here, there, mem-taken, insert-taken}
 use Rattle.book.proofs.definitions.CounterpartyLaws.{Unreached, Reached}
+use Rattle.book.proofs.definitions.MeetingLaws.{trading-known, unowned-trades}
 use Rattle.book.proofs.definitions.MatchingLaws.{meeting-distinct, matching-keeps, matching-ends, unread}
 
 -- the least number that passes a test
@@ -141,18 +142,21 @@ trade-reached q w {o} {os} m d t l =
     (λ u. omega (tests, e, s))
     (λ u. omega (tests, e, s, taken-reached w (insert-taken (reduced q o) (without (o .id) os)), reduced-reached q w o t))
 
--- what is left of a working order: its shares less those that it reaches
-pub matching-left : (w : Order) (os : List Order) → Distinct os → matching w os .left .shares ≡ w.shares - allReached w os
-unfolding meeting
-matching-left w os d = go (matching-ends w os d) (matching-keeps unread Kept keeps w os tt (d, refl) .1)
+-- what is left of a working order that has no owner: its shares less those that it reaches
+pub matching-left : (w : Order) (os : List Order) → w.owner ≡ 0 → Distinct os → matching w os .left .shares ≡ w.shares - allReached w os
+matching-left w os u d = go (matching-ends w os d) (matching-keeps unread Kept keeps w os tt (d, u, refl) .2)
   where
     Kept : Order → List Order → Unit {0} → Type 0
-    Kept x l a = Distinct l × (x.shares - allReached x l ≡ w.shares - allReached w os)
+    Kept x l a = Distinct l × (x.owner ≡ 0) × (x.shares - allReached x l ≡ w.shares - allReached w os)
 
     keeps : (x o : Order) (l : List Order) (a : Unit {0}) → Reached x l (some o) → Kept x l a → Kept ((meeting x o l) .left) ((meeting x o l) .orders) a
     keeps x o l a r k =
         let q : ℕ = min (x .shares) (o .shares) in
-        (meeting-distinct x o l (r .0) (k .0), omega (arith, k .1, reached-alike (reduced q x) x refl refl (afterTrade o q l), trade-reached q x (r .0) (k .0) (r .1) (omega arith)))
+        subst
+        (λ (z : Meeting). Distinct (z .orders) → Kept (z .left) (z .orders) a)
+        (sym (unowned-trades x o l (k .1) ∙ trading-known x o l))
+        (λ n. (n, k .1, omega (arith, k .2, reached-alike (reduced q x) x refl refl (afterTrade o q l), trade-reached q x (r .0) (k .0) (r .1) (omega arith))))
+        (meeting-distinct x o l (r .0) (k .0))
 
     go : let m : Matched = matching w os in Reached (m .left) (m .orders) none → (m .left .shares - allReached (m .left) (m .orders) ≡ w.shares - allReached w os) → m .left .shares ≡ w.shares - allReached w os
     go (inl e) h = omega (arith, e, h)

@@ -13,9 +13,10 @@ use Rattle.numbers.specs.Tests.{All}
 use Rattle.numbers.proofs.TestLaws.{by-test, tests}
 use Rattle.book.specs.declared.Order.{Order}
 use Rattle.book.specs.rules.Orders.{isBuy, reduced, ifSame, restingShares, without}
-use Rattle.book.specs.rules.Matching.{counterparty, Execution, afterTrade, Meeting, meeting, Matched, matchingWith, matchingUpTo, matching}
+use Rattle.book.specs.rules.Matching.{counterparty, afterTrade, Happening, Meeting, trading, withdrawing, meeting, Matched, matchingWith, matchingUpTo, matching}
 use Rattle.book.proofs.definitions.ShareLaws.{ifSame-less}
-use Rattle.book.proofs.definitions.OrderLaws.{idOf, Other, Differ, Distinct, taken-all, all-taken, taken-differ, differ-taken, taken-shares, taken-length, mem-taken, insert-taken, taken-mem, without-mem, same-id}
+use Rattle.book.proofs.definitions.OrderLaws.{idOf, Other, Differ, Distinct, taken-all, all-taken, taken-differ, differ-taken, taken-shares, taken-length, without-all, without-differ, mem-taken, insert-taken, taken-mem, without-mem, same-id}
+use Rattle.book.proofs.definitions.MeetingLaws.{meeting-by}
 use Rattle.book.proofs.definitions.CounterpartyLaws.{reach-opposite, Reached, counterparty-reached}
 
 -- the book after a trade
@@ -75,23 +76,29 @@ afterTrade-mem {o} {os} x q n m =
 -- one meeting
 
 pub meeting-distinct : (w o : Order) (os : List Order) → List·Memᴰ o os → Distinct os → Distinct ((meeting w o os) .orders)
-unfolding meeting
-meeting-distinct w o os m d = afterTrade-differ (min (w .shares) (o .shares)) m d idOf refl d
+unfolding trading withdrawing
+meeting-distinct w o os m d =
+    meeting-by (λ (x : Meeting). Distinct (x .orders)) w o os (without-differ idOf (o .id) os d) (afterTrade-differ (min (w .shares) (o .shares)) m d idOf refl d)
 
 pub meeting-all : (P : Order → Type 0) → KeptReduced P → (w o : Order) (os : List Order) → List·Memᴰ o os → Distinct os → P w → All P os → P ((meeting w o os) .left) × All P ((meeting w o os) .orders)
-unfolding meeting
+unfolding trading withdrawing
 meeting-all P s w o os m d p h =
     let q : ℕ = min (w .shares) (o .shares) in
-    (s w q p, afterTrade-all q m d P (λ z n l k. s z n k) h)
+    meeting-by (λ (x : Meeting). P (x .left) × All P (x .orders)) w o os (p, without-all P (o .id) os h) (s w q p, afterTrade-all q m d P (λ z n l k. s z n k) h)
 
 -- at most n more meetings: the working order has no shares, or at most n orders rest
 abbrev Within : ℕ → Order → List Order → Type 0
 Within n w os = (w.shares ≡ 0) ⊎ (length os ≤ n)
 
 meeting-within : (n : ℕ) (w o : Order) (os : List Order) → List·Memᴰ o os → Distinct os → Within (suc n) w os → Within n ((meeting w o os) .left) ((meeting w o os) .orders)
-unfolding meeting
-meeting-within n w o os m d z = go z (decLe (o .shares) (w .shares))
+unfolding trading withdrawing
+meeting-within n w o os m d z =
+    meeting-by (λ (x : Meeting). Within n (x .left) (x .orders)) w o os (fewer z) (go z (decLe (o .shares) (w .shares)))
   where
+    fewer : Within (suc n) w os → Within n w (without (o .id) os)
+    fewer (inl e) = inl e
+    fewer (inr e) = inr (omega (arith, taken-length (mem-taken m d)))
+
     go : Within (suc n) w os → Dec (o.shares ≤ w.shares) → (w.shares - min (w .shares) (o .shares) ≡ 0) ⊎ (length (afterTrade o (min (w .shares) (o .shares)) os) ≤ n)
     go (inl e) y = inl (omega arith)
     go (inr e) (yes y) = inr (omega (arith, afterTrade-shorter (min (w .shares) (o .shares)) m d (omega arith)))
@@ -99,28 +106,28 @@ meeting-within n w o os m d z = go z (decLe (o .shares) (w .shares))
 
 -- matching
 
-module _ {A : Type 0} (read : A → Execution → A) (I : Order → List Order → A → Type 0) where
-  -- I is kept by each meeting, whose execution is read
+module _ {A : Type 0} (read : A → Happening → A) (I : Order → List Order → A → Type 0) where
+  -- I is kept by each meeting; what happens in it is read
   abbrev pub KeptByMeeting : Type 0
   KeptByMeeting =
-      (w o : Order) (os : List Order) (a : A) → Reached w os (some o) → I w os a → I ((meeting w o os) .left) ((meeting w o os) .orders) (read a ((meeting w o os) .execution))
+      (w o : Order) (os : List Order) (a : A) → Reached w os (some o) → I w os a → I ((meeting w o os) .left) ((meeting w o os) .orders) (read a ((meeting w o os) .happening))
 
-  upTo-keeps : KeptByMeeting → (n : ℕ) (w : Order) (os : List Order) (a : A) → I w os a → let m : Matched = matchingUpTo n w os in I (m .left) (m .orders) (foldl read a (m .executions))
+  upTo-keeps : KeptByMeeting → (n : ℕ) (w : Order) (os : List Order) (a : A) → I w os a → let m : Matched = matchingUpTo n w os in I (m .left) (m .orders) (foldl read a (m .happenings))
   unfolding matchingUpTo matchingWith
   upTo-keeps k zero w os a i = i
   upTo-keeps k (suc n) w os a i = go (counterparty w os) (counterparty-reached w os) (upTo-keeps k n)
     where
-      go : (t : Option Order) → Reached w os t → ((w : Order) (os : List Order) (a : A) → I w os a → let m : Matched = matchingUpTo n w os in I (m .left) (m .orders) (foldl read a (m .executions))) → let m : Matched = matchingWith (matchingUpTo n) t w os in I (m .left) (m .orders) (foldl read a (m .executions))
+      go : (t : Option Order) → Reached w os t → ((w : Order) (os : List Order) (a : A) → I w os a → let m : Matched = matchingUpTo n w os in I (m .left) (m .orders) (foldl read a (m .happenings))) → let m : Matched = matchingWith (matchingUpTo n) t w os in I (m .left) (m .orders) (foldl read a (m .happenings))
       go none r f = i
       go (some o) r f = f _ _ _ (k w o os a r i)
 
-  -- what each meeting keeps, matching keeps, whoever reads the executions
-  pub matching-keeps : KeptByMeeting → (w : Order) (os : List Order) (a : A) → I w os a → let m : Matched = matching w os in I (m .left) (m .orders) (foldl read a (m .executions))
+  -- what each meeting keeps, matching keeps, whoever reads what happens
+  pub matching-keeps : KeptByMeeting → (w : Order) (os : List Order) (a : A) → I w os a → let m : Matched = matching w os in I (m .left) (m .orders) (foldl read a (m .happenings))
   unfolding matching
   matching-keeps k w os a i = upTo-keeps k (length os) w os a i
 
--- for what no execution is read
-abbrev pub unread : Unit {0} → Execution → Unit {0}
+-- for what nothing is read
+abbrev pub unread : Unit {0} → Happening → Unit {0}
 unread a x = a
 
 pub matching-all : (P : Order → Type 0) → KeptReduced P → (w : Order) (os : List Order) → Distinct os → P w → All P os → let m : Matched = matching w os in Distinct (m .orders) × P (m .left) × All P (m .orders)
@@ -140,13 +147,19 @@ abbrev OwnSide : Order → Order → List Order → Type 0
 OwnSide o w os = Distinct os × (isBuy o ≡ isBuy w) × List·Memᴰ o os
 
 meeting-own-side : (o w x : Order) (os : List Order) → Reached w os (some x) → OwnSide o w os → OwnSide o ((meeting w x os) .left) ((meeting w x os) .orders)
-unfolding meeting
+unfolding trading withdrawing
 meeting-own-side o w x os r i =
-    (meeting-distinct w x os (r .0) (i .0), i .1, afterTrade-mem x (min (w .shares) (x .shares)) (λ e. opposite (isBuy w) (sym (i .1) ∙ ap isBuy (same-id (i .2) (r .0) (i .0) e) ∙ reach-opposite w x (r .1))) (i .2))
+    meeting-by (λ (z : Meeting). Distinct (z .orders) → OwnSide o (z .left) (z .orders)) w x os
+    (λ d. (d, i .1, without-mem (x .id) other (i .2)))
+    (λ d. (d, i .1, afterTrade-mem x (min (w .shares) (x .shares)) other (i .2)))
+    (meeting-distinct w x os (r .0) (i .0))
   where
     opposite : (b : Bool) → b ≡ not b → ⊥
     opposite true e = subst T e tt
     opposite false e = subst T (sym e) tt
+
+    other : Other (x .id) o
+    other e = opposite (isBuy w) (sym (i .1) ∙ ap isBuy (same-id (i .2) (r .0) (i .0) e) ∙ reach-opposite w x (r .1))
 
 pub matching-own-side : (o w : Order) (os : List Order) → Distinct os → isBuy o ≡ isBuy w → List·Memᴰ o os → List·Memᴰ o ((matching w os) .orders)
 matching-own-side o w os d e m = matching-keeps unread (λ x l a. OwnSide o x l) (λ x y l a r i. meeting-own-side o x y l r i) w os tt (d, e, m) .2
@@ -174,10 +187,10 @@ matching-ends w os d = upTo-ends (length os) w os d (inr (omega arith))
 -- matching, one meeting at a time: how many more are allowed doesn't matter while it is enough
 
 abbrev unmatched : Order → List Order → Matched
-unmatched w os = record { executions = []; left = w; orders = os }
+unmatched w os = record { happenings = []; left = w; orders = os }
 
-abbrev onceMore : Execution → Matched → Matched
-onceMore x m = record { executions = x ∷ m.executions; left = m.left; orders = m.orders }
+abbrev onceMore : Happening → Matched → Matched
+onceMore x m = record { happenings = x ∷ m.happenings; left = m.left; orders = m.orders }
 
 none-within : (w o : Order) (os : List Order) → Distinct os → Within zero w os → Reached w os (some o) → ⊥
 none-within w o os d (inl e) r = omega (arith, r .2)
@@ -201,10 +214,10 @@ upTo-same (suc m) (suc n) w os d y z = go (counterparty w os) (counterparty-reac
     go : (t : Option Order) → Reached w os t → ((w : Order) (os : List Order) → Distinct os → Within m w os → Within n w os → matchingUpTo m w os ≡ matchingUpTo n w os) → matchingWith (matchingUpTo m) t w os ≡ matchingWith (matchingUpTo n) t w os
     go none r f = refl
     go (some o) r f =
-        ap (onceMore ((meeting w o os) .execution)) (f _ _ (meeting-distinct w o os (r .0) d) (meeting-within m w o os (r .0) d y) (meeting-within n w o os (r .0) d z))
+        ap (onceMore ((meeting w o os) .happening)) (f _ _ (meeting-distinct w o os (r .0) d) (meeting-within m w o os (r .0) d y) (meeting-within n w o os (r .0) d z))
 
 -- matching where there is no counterparty
-pub matching-none : (w : Order) (os : List Order) → counterparty w os ≡ none → matching w os ≡ record { executions = []; left = w; orders = os }
+pub matching-none : (w : Order) (os : List Order) → counterparty w os ≡ none → matching w os ≡ record { happenings = []; left = w; orders = os }
 unfolding matching matchingUpTo matchingWith
 matching-none w os e = go (length os)
   where
@@ -213,14 +226,14 @@ matching-none w os e = go (length os)
     go (suc n) = rw e
 
 -- matching where there is one: their meeting, then matching with what it leaves
-pub matching-some : (w o : Order) (os : List Order) → Distinct os → counterparty w os ≡ some o → let x : Meeting = meeting w o os in let m : Matched = matching (x .left) (x .orders) in matching w os ≡ record { executions = x.execution ∷ m.executions; left = m.left; orders = m.orders }
+pub matching-some : (w o : Order) (os : List Order) → Distinct os → counterparty w os ≡ some o → let x : Meeting = meeting w o os in let m : Matched = matching (x .left) (x .orders) in matching w os ≡ record { happenings = x.happening ∷ m.happenings; left = m.left; orders = m.orders }
 unfolding matching matchingUpTo matchingWith
 matching-some w o os d e = go (length os) (omega arith)
   where
     r : Reached w os (some o)
     r = subst (Reached w os) e (counterparty-reached w os)
 
-    go : (n : ℕ) → length os ≤ n → matchingUpTo n w os ≡ onceMore ((meeting w o os) .execution) (matching ((meeting w o os) .left) ((meeting w o os) .orders))
+    go : (n : ℕ) → length os ≤ n → matchingUpTo n w os ≡ onceMore ((meeting w o os) .happening) (matching ((meeting w o os) .left) ((meeting w o os) .orders))
     go zero l = absurd (none-within w o os d (inr l) r)
     go (suc n) l =
-        rw e (ap (onceMore ((meeting w o os) .execution)) (upTo-same n (length ((meeting w o os) .orders)) _ _ (meeting-distinct w o os (r .0) d) (meeting-within n w o os (r .0) d (inr l)) (inr (omega arith))))
+        rw e (ap (onceMore ((meeting w o os) .happening)) (upTo-same n (length ((meeting w o os) .orders)) _ _ (meeting-distinct w o os (r .0) d) (meeting-within n w o os (r .0) d (inr l)) (inr (omega arith))))

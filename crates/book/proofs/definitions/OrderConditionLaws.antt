@@ -9,7 +9,7 @@ use Rattle.numbers.proofs.TestLaws.{and-T, T-and, or-T, Each, conj-T, T-conj, e
 use Rattle.prices.specs.Prices.{legal, isBid}
 use Rattle.book.specs.declared.Order.{Order}
 use Rattle.book.specs.rules.Orders.{reduced}
-use Rattle.book.specs.rules.Sound.{mostShares, slideAllowed, marketAllowed, orderConditions, soundOrder}
+use Rattle.book.specs.rules.Sound.{mostShares, mostOwner, slideAllowed, marketAllowed, orderConditions, soundOrder}
 
 -- what an order has from its entry on
 abbrev pub FieldsSound : ℕ → Order → Type 0
@@ -22,6 +22,7 @@ FieldsSound step o =
       slide : T (slideAllowed (o .mark) (o .slide));
       entryBid : T (isBid step (o .«entry_bid»));
       market : T (marketAllowed (o .market) (o .mark) (o .limit));
+      owner : o.owner ≤ mostOwner;
     }
 
 -- an order that may work, and one that may rest, at a step; n is the last id and s the last stamp
@@ -71,11 +72,11 @@ unfolding soundOrder
 order-mayRest step n s o t = go (conj-T (orderConditions step n s o) t)
   where
     go : Each (orderConditions step n s o) → MayRest step n s o
-    go (id, (mark, (limit, (least, (most, (show, (life, (slide, (first, (last, (price, (entryBid, (market, end))))))))))))) =
+    go (id, (mark, (limit, (least, (most, (show, (life, (slide, (first, (last, (price, (entryBid, (market, (owner, end)))))))))))))) =
         record {
           works =
               record {
-                fields = record { mark = leb→le _ _ mark; limit = limit; show = leb→le _ _ show; life = omega tests; slide = slide; entryBid = entryBid; market = market };
+                fields = record { mark = leb→le _ _ mark; limit = limit; show = leb→le _ _ show; life = omega tests; slide = slide; entryBid = entryBid; market = market; owner = leb→le _ _ owner };
                 id = leb→le _ _ id;
                 first = leb→le _ _ first;
                 last = leb→le _ _ last;
@@ -91,4 +92,4 @@ unfolding soundOrder
 mayRest-order step n s o h =
     let w = h .works in
     let f = w .fields in
-    T-conj (orderConditions step n s o) (le→leb _ _ (w .id), (le→leb _ _ (f .mark), (f .limit, (le→leb _ _ (h .least), (le→leb _ _ (w .most), (le→leb _ _ (f .show), (eq→T (h .day), (f .slide, (le→leb _ _ (w .first), (le→leb _ _ (w .last), (w .price, (f .entryBid, (f .market, tt)))))))))))))
+    T-conj (orderConditions step n s o) (le→leb _ _ (w .id), (le→leb _ _ (f .mark), (f .limit, (le→leb _ _ (h .least), (le→leb _ _ (w .most), (le→leb _ _ (f .show), (eq→T (h .day), (f .slide, (le→leb _ _ (w .first), (le→leb _ _ (w .last), (w .price, (f .entryBid, (f .market, (le→leb _ _ (f .owner), tt))))))))))))))

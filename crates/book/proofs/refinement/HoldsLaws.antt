@@ -12,7 +12,7 @@ use Rattle.book.specs.steps.BookSteps.{Book, Holds, HeaderSet}
 use Rattle.book.specs.steps.WordSteps.{Stored, ShiftedDown, ShiftedUp}
 use Rattle.book.specs.steps.Positions.{removeAt, insertAt}
 use Rattle.book.proofs.refinement.TabulateLaws.{by-order, tabulate-ext, set-tabulate, remove-tabulate, insert-tabulate}
-use Rattle.book.proofs.refinement.WordLaws.{order-ext, resting-length, resting-tabulate, resting-is, resting-n}
+use Rattle.book.proofs.refinement.WordLaws.{flag-inside, order-ext, resting-length, resting-tabulate, resting-is, resting-n}
 
 -- the same orders, said otherwise
 pub holds-as : {w w′ : List ℕ} {l m : List Order} → Holds w w′ l → l ≡ m → Holds w w′ m
@@ -77,7 +77,7 @@ removed w w₁ i n from to e ef et b h c =
     let high : (j k : ℕ) → i ≤ j → j < last → k < orderWidth → word w₁ j k ≡ word w (suc j) k = λ j k hi hj hk. c .moved (placeFrom j + k) (omega arith) (omega arith) ∙ ap (λ (p : ℕ). getD w p 0) (omega arith) in
     record {
       book =
-          counted-book w₁ last long (c .below layoutWord (omega arith) ∙ b.numbered) (omega (arith, b .few)) (λ j k l a z. by-order j i (λ hj. subst (λ (x : ℕ). x ≤ 1) (sym (low j k hj z)) (b .flags j k (omega arith) a z)) (λ hj. subst (λ (x : ℕ). x ≤ 1) (sym (high j k hj l z)) (b .flags (suc j) k (omega arith) a z)));
+          counted-book w₁ last long (c .below layoutWord (omega arith) ∙ b.numbered) (omega (arith, b .few)) (λ j k l a z. by-order j i (λ hj. subst (λ (x : ℕ). x ≤ 1) (sym (low j k hj (flag-inside z))) (b .flags j k (omega arith) a z)) (λ hj. subst (λ (x : ℕ). x ≤ 1) (sym (high j k hj l (flag-inside z))) (b .flags (suc j) k (omega arith) a z)));
       rests =
           resting-tabulate w′ last _ (counted-at w₁ last long) (remove-tabulate last (orderAt w) (orderAt w′) i (omega arith) (λ j hj. order-ext (word w′ j) (word w j) (λ k hk. kept (placeFrom j + k) (omega arith) ∙ low j k hj hk)) (λ j hi hj. order-ext (word w′ j) (word w (suc j)) (λ k hk. kept (placeFrom j + k) (omega arith) ∙ high j k hi hj hk)) ∙ ap (removeAt i) (resting-n w (suc last) (omega arith)));
       size = length-set w₁ 0 last ∙ c.size;
@@ -97,7 +97,7 @@ replaced w w′ i o b h c =
             numbered = c .below layoutWord (omega arith) ∙ b.numbered;
             few = omega (arith, b .few, resting-length w′, resting-length w);
             flags =
-                λ j k l a z. by-order j i (λ q. subst (λ (x : ℕ). x ≤ 1) (sym (other j k (λ e. omega arith) z)) (b .flags j k (omega arith) a z)) (λ q. by-order i j (λ q₂. subst (λ (x : ℕ). x ≤ 1) (sym (other j k (λ e. omega arith) z)) (b .flags j k (omega (arith, resting-length w′, resting-length w)) a z)) (λ q₂. subst (λ (y : ℕ). word w′ y k ≤ 1) {x = i} (omega arith) (c .flags k a z)));
+                λ j k l a z. by-order j i (λ q. subst (λ (x : ℕ). x ≤ 1) (sym (other j k (λ e. omega arith) (flag-inside z))) (b .flags j k (omega arith) a z)) (λ q. by-order i j (λ q₂. subst (λ (x : ℕ). x ≤ 1) (sym (other j k (λ e. omega arith) (flag-inside z))) (b .flags j k (omega (arith, resting-length w′, resting-length w)) a z)) (λ q₂. subst (λ (y : ℕ). word w′ y k ≤ 1) {x = i} (omega arith) (c .flags k a z)));
           };
       rests =
           resting-tabulate w′ (getD w 0 0) _ n (set-tabulate (getD w 0 0) (orderAt w) (orderAt w′) i o (omega (arith, resting-length w)) (c .new) (λ j hj ne. order-ext (word w′ j) (word w j) (λ k hk. other j k ne hk)) ∙ ap (λ (l : List Order). set l i o) (resting-is w));
@@ -116,7 +116,7 @@ inserted w w₁ w₂ o i n from to e ef et hi b h r c =
     let high : (j k : ℕ) → i ≤ j → j < n → k < orderWidth → word w₂ (suc j) k ≡ word w j k = λ j k hj hn hk. c .above (placeFrom (suc j) + k) (omega arith) ∙ ap (λ (p : ℕ). getD w₁ p 0) (omega arith) ∙ r .moved (placeFrom j + k) (omega arith) (omega arith) in
     record {
       book =
-          counted-book w₂ (n + 1) long (c .below layoutWord (omega arith) ∙ r .below layoutWord (omega arith) ∙ b.numbered) (omega arith) (λ j k l a z. by-order j i (λ hj. subst (λ (x : ℕ). x ≤ 1) (sym (low j k hj z)) (b .flags j k (omega arith) a z)) (λ hj. by-order i j (λ hk. subst (λ (y : ℕ). word w₂ y k ≤ 1) {x = suc (j - 1)} (omega arith) (subst (λ (x : ℕ). x ≤ 1) (sym (high (j - 1) k (omega arith) (omega arith) z)) (b .flags (j - 1) k (omega arith) a z))) (λ hk. subst (λ (y : ℕ). word w₂ y k ≤ 1) {x = i} (omega arith) (c .flags k a z))));
+          counted-book w₂ (n + 1) long (c .below layoutWord (omega arith) ∙ r .below layoutWord (omega arith) ∙ b.numbered) (omega arith) (λ j k l a z. by-order j i (λ hj. subst (λ (x : ℕ). x ≤ 1) (sym (low j k hj (flag-inside z))) (b .flags j k (omega arith) a z)) (λ hj. by-order i j (λ hk. subst (λ (y : ℕ). word w₂ y k ≤ 1) {x = suc (j - 1)} (omega arith) (subst (λ (x : ℕ). x ≤ 1) (sym (high (j - 1) k (omega arith) (omega arith) (flag-inside z))) (b .flags (j - 1) k (omega arith) a z))) (λ hk. subst (λ (y : ℕ). word w₂ y k ≤ 1) {x = i} (omega arith) (c .flags k a z))));
       rests =
           resting-tabulate w′ (suc n) _ (counted-at w₂ (n + 1) long ∙ add-one n) (insert-tabulate n (orderAt w) (orderAt w′) i o (omega arith) (λ j hj. order-ext (word w′ j) (word w j) (λ k hk. kept (placeFrom j + k) (omega arith) ∙ low j k hj hk)) (order-ext (word w′ i) (word w₂ i) (λ k hk. kept (placeFrom i + k) (omega arith)) ∙ c.new) (λ j hj hn. order-ext (word w′ (suc j)) (word w j) (λ k hk. kept (placeFrom (suc j) + k) (omega arith) ∙ high j k hj hn hk)) ∙ ap (insertAt i o) (resting-n w n e));
       size = length-set w₂ 0 (n + 1) ∙ c.size ∙ r.size;

@@ -10,37 +10,38 @@ use lib.Dec.{T, leb, ltb, eqb, leb→le, le→leb, eqb→eq}
 use Rattle.numbers.proofs.TestLaws.{and-T, T-and, or-T, T-inl, T-inr, eq→T, bool-ext, conj-T, T-conj, tests}
 use Rattle.prices.specs.Prices.{legal}
 use Rattle.book.specs.declared.Order.{Order}
-use Rattle.book.specs.rules.Sound.{mostShares, slideAllowed, marketAllowed, orderConditions, soundOrder}
+use Rattle.book.specs.rules.Sound.{mostShares, mostOwner, slideAllowed, marketAllowed, orderConditions, soundOrder}
 use Rattle.book.specs.rules.Words.{word, orderAt, flagsAt}
 use Rattle.book.specs.steps.RecordWalk.{fromOne, codesSound, pricesSound, bitsAt, marketAt, idBefore, soundAt}
 use Rattle.book.proofs.definitions.OrderConditionLaws.{MayRest, order-mayRest}
 
 -- an order whose show is 0 or 1 and whose market flag is allowed
-sound-groups : (step lastId lastStamp : ℕ) (o : Order) → o.show ≤ 1 → T (marketAllowed (o .market) (o .mark) (o .limit)) → soundOrder step lastId lastStamp o ≡ (leb (o .id) lastId && (fromOne (o .shares) mostShares && (fromOne (o .stamp) lastStamp && (codesSound (o .mark) (o .life) (o .slide) && pricesSound step (o .limit) (o .price) (o .«entry_bid»)))))
+sound-groups : (step lastId lastStamp : ℕ) (o : Order) → o.show ≤ 1 → T (marketAllowed (o .market) (o .mark) (o .limit)) → soundOrder step lastId lastStamp o ≡ (leb (o .id) lastId && (fromOne (o .shares) mostShares && (fromOne (o .stamp) lastStamp && (codesSound (o .mark) (o .life) (o .slide) (o .owner) && pricesSound step (o .limit) (o .price) (o .«entry_bid»)))))
 unfolding soundOrder fromOne codesSound pricesSound
 sound-groups step lastId lastStamp o h k = bool-ext _ _ there back
   where
-    there : T (soundOrder step lastId lastStamp o) → T (leb (o .id) lastId && (fromOne (o .shares) mostShares && (fromOne (o .stamp) lastStamp && (codesSound (o .mark) (o .life) (o .slide) && pricesSound step (o .limit) (o .price) (o .«entry_bid»)))))
+    there : T (soundOrder step lastId lastStamp o) → T (leb (o .id) lastId && (fromOne (o .shares) mostShares && (fromOne (o .stamp) lastStamp && (codesSound (o .mark) (o .life) (o .slide) (o .owner) && pricesSound step (o .limit) (o .price) (o .«entry_bid»)))))
     there t =
-        let (id, (mark, (limit, (sharesLow, (sharesHigh, (show, (life, (slide, (stampLow, (stampHigh, (price, (bid, (_, _))))))))))))) = conj-T (orderConditions step lastId lastStamp o) t in
-        T-and (leb (o .id) lastId) _ id (T-and (fromOne (o .shares) mostShares) _ (T-and (leb 1 (o .shares)) _ sharesLow sharesHigh) (T-and (fromOne (o .stamp) lastStamp) _ (T-and (leb 1 (o .stamp)) _ stampLow stampHigh) (T-and (codesSound (o .mark) (o .life) (o .slide)) _ (T-and (eqb (o .life) 0) _ life (T-and (leb (o .mark) 3) _ mark slide)) (T-and (legal step (o .limit)) _ limit (T-and (legal step (o .price)) _ price bid)))))
+        let (id, (mark, (limit, (sharesLow, (sharesHigh, (show, (life, (slide, (stampLow, (stampHigh, (price, (bid, (_, (owner, _)))))))))))))) = conj-T (orderConditions step lastId lastStamp o) t in
+        T-and (leb (o .id) lastId) _ id (T-and (fromOne (o .shares) mostShares) _ (T-and (leb 1 (o .shares)) _ sharesLow sharesHigh) (T-and (fromOne (o .stamp) lastStamp) _ (T-and (leb 1 (o .stamp)) _ stampLow stampHigh) (T-and (codesSound (o .mark) (o .life) (o .slide) (o .owner)) _ (T-and (eqb (o .life) 0) _ life (T-and (leb (o .owner) mostOwner) _ owner (T-and (leb (o .mark) 3) _ mark slide))) (T-and (legal step (o .limit)) _ limit (T-and (legal step (o .price)) _ price bid)))))
 
-    back : T (leb (o .id) lastId && (fromOne (o .shares) mostShares && (fromOne (o .stamp) lastStamp && (codesSound (o .mark) (o .life) (o .slide) && pricesSound step (o .limit) (o .price) (o .«entry_bid»))))) → T (soundOrder step lastId lastStamp o)
+    back : T (leb (o .id) lastId && (fromOne (o .shares) mostShares && (fromOne (o .stamp) lastStamp && (codesSound (o .mark) (o .life) (o .slide) (o .owner) && pricesSound step (o .limit) (o .price) (o .«entry_bid»))))) → T (soundOrder step lastId lastStamp o)
     back t =
         let a = and-T (leb (o .id) lastId) _ t in
         let b = and-T (fromOne (o .shares) mostShares) _ (a .1) in
         let c = and-T (fromOne (o .stamp) lastStamp) _ (b .1) in
-        let d = and-T (codesSound (o .mark) (o .life) (o .slide)) _ (c .1) in
+        let d = and-T (codesSound (o .mark) (o .life) (o .slide) (o .owner)) _ (c .1) in
         let shares = and-T (leb 1 (o .shares)) _ (b .0) in
         let stamp = and-T (leb 1 (o .stamp)) _ (c .0) in
         let life = and-T (eqb (o .life) 0) _ (d .0) in
-        let mark = and-T (leb (o .mark) 3) _ (life .1) in
+        let owner = and-T (leb (o .owner) mostOwner) _ (life .1) in
+        let mark = and-T (leb (o .mark) 3) _ (owner .1) in
         let limit = and-T (legal step (o .limit)) _ (d .1) in
         let price = and-T (legal step (o .price)) _ (limit .1) in
-        T-conj (orderConditions step lastId lastStamp o) (a .0, (mark .0, (limit .0, (shares .0, (shares .1, (le→leb _ _ h, (life .0, (mark .1, (stamp .0, (stamp .1, (price .0, (price .1, (k, tt)))))))))))))
+        T-conj (orderConditions step lastId lastStamp o) (a .0, (mark .0, (limit .0, (shares .0, (shares .1, (le→leb _ _ h, (life .0, (mark .1, (stamp .0, (stamp .1, (price .0, (price .1, (k, (owner .0, tt))))))))))))))
 
 -- the order at place i
-pub place-groups : (step lastId lastStamp : ℕ) (w : List ℕ) (i : ℕ) → word w i 4 ≤ 1 → T (marketAt w i) → let o : Order = orderAt w i in soundOrder step lastId lastStamp o ≡ (leb (o .id) lastId && (fromOne (o .shares) mostShares && (fromOne (o .stamp) lastStamp && (codesSound (o .mark) (o .life) (o .slide) && pricesSound step (o .limit) (o .price) (o .«entry_bid»)))))
+pub place-groups : (step lastId lastStamp : ℕ) (w : List ℕ) (i : ℕ) → word w i 4 ≤ 1 → T (marketAt w i) → let o : Order = orderAt w i in soundOrder step lastId lastStamp o ≡ (leb (o .id) lastId && (fromOne (o .shares) mostShares && (fromOne (o .stamp) lastStamp && (codesSound (o .mark) (o .life) (o .slide) (o .owner) && pricesSound step (o .limit) (o .price) (o .«entry_bid»)))))
 unfolding marketAt
 place-groups step lastId lastStamp w i h k = sound-groups step lastId lastStamp (orderAt w i) h k
 

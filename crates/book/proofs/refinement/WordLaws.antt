@@ -63,12 +63,16 @@ flag-small : (b : Bool) (n : ℕ) → n ≡ flagWord b → n ≤ 1
 flag-small true n e = omega arith
 flag-small false n e = omega arith
 
+-- the flags are among the words of an order
+pub flag-inside : {k : ℕ} → k < pastFlags → k < orderWidth
+flag-inside h = omega arith
+
 -- what holds at 10 to 13
 pub at-flags : (P : ℕ → Type 0) → P 10 → P 11 → P 12 → P 13 → (k : ℕ) → firstFlag ≤ k → k < pastFlags → P k
 at-flags P a b c d k l h =
     by-order k 11 (λ m. subst P {x = 10} (omega arith) a) (λ m. by-order k 12 (λ n. subst P {x = 11} (omega arith) b) (λ n. by-order k 13 (λ q. subst P {x = 12} (omega arith) c) (λ q. subst P {x = 13} (omega arith) d)))
 
-pub row-is : (o : Order) (a u c m : ℕ) → a ≡ flagWord (o .adjusted) → u ≡ flagWord (o .used) → c ≡ flagWord (o .clear) → m ≡ flagWord (o .market) → Row (o.id ∷ o.mark ∷ o.limit ∷ o.shares ∷ o.show ∷ o.life ∷ o.slide ∷ o.stamp ∷ o.price ∷ o .«entry_bid» ∷ a ∷ u ∷ c ∷ m ∷ []) o
+pub row-is : (o : Order) (a u c m : ℕ) → a ≡ flagWord (o .adjusted) → u ≡ flagWord (o .used) → c ≡ flagWord (o .clear) → m ≡ flagWord (o .market) → Row (o.id ∷ o.mark ∷ o.limit ∷ o.shares ∷ o.show ∷ o.life ∷ o.slide ∷ o.stamp ∷ o.price ∷ o .«entry_bid» ∷ a ∷ u ∷ c ∷ m ∷ o.owner ∷ []) o
 row-is o a u c m p q r t =
     record {
       is =
@@ -87,9 +91,10 @@ row-is o a u c m p q r t =
             used = flag-back (o .used) u q i;
             clear = flag-back (o .clear) c r i;
             market = flag-back (o .market) m t i;
+            owner = o.owner;
           };
       flags =
-          at-flags (λ (k : ℕ). getD (o.id ∷ o.mark ∷ o.limit ∷ o.shares ∷ o.show ∷ o.life ∷ o.slide ∷ o.stamp ∷ o.price ∷ o .«entry_bid» ∷ a ∷ u ∷ c ∷ m ∷ []) k 0 ≤ 1)
+          at-flags (λ (k : ℕ). getD (o.id ∷ o.mark ∷ o.limit ∷ o.shares ∷ o.show ∷ o.life ∷ o.slide ∷ o.stamp ∷ o.price ∷ o .«entry_bid» ∷ a ∷ u ∷ c ∷ m ∷ o.owner ∷ []) k 0 ≤ 1)
           (flag-small (o .adjusted) a p)
           (flag-small (o .used) u q)
           (flag-small (o .clear) c r)

@@ -11,7 +11,7 @@ use Rattle.book.specs.declared.Order.{Order}
 use Rattle.book.specs.rules.Words.{orderWidth, placeFrom, word}
 use Rattle.book.specs.steps.WordSteps.{Row, Copied, Stored, ShiftedDown, ShiftedUp}
 use Rattle.book.proofs.refinement.TabulateLaws.{by-order}
-use Rattle.book.proofs.refinement.WordLaws.{order-ext}
+use Rattle.book.proofs.refinement.WordLaws.{flag-inside, order-ext}
 
 pub copied-none : (w : List ℕ) (at : ℕ) (row : List ℕ) → Copied w w at row 0
 copied-none w at row =
@@ -33,7 +33,7 @@ copied-stored w w′ row i o r c =
     record {
       size = c.size;
       new = order-ext (word w′ i) (λ k. getD row k 0) (λ k hk. c .new k hk) ∙ r.is;
-      flags = λ k l h. subst (λ (x : ℕ). x ≤ 1) (sym (c .new k h)) (r .flags k l h);
+      flags = λ k l h. subst (λ (x : ℕ). x ≤ 1) (sym (c .new k (flag-inside h))) (r .flags k l h);
       below = c.below;
       above = c.above;
     }

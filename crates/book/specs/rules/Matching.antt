@@ -1,6 +1,6 @@
 -- Priority and matching: document 01, "Matching: while shares remain, trade with the best opposite order that the working price
 -- reaches (equal counts), for the smaller amount, at the resting order's price. Best is by price, then displayed before not, then
--- lower stamp." Assumes nothing.
+-- lower stamp." Document 02, No. 7, says where the resting order is cancelled instead. Assumes nothing.
 use Prim.Native.Nat.{ℕ, zero, suc, min}
 use mathlib.Core.Bool.{Bool, not, _&&_, _||_}
 use mathlib.Core.List.{List, [], _∷_}
@@ -61,33 +61,52 @@ execution w o q =
 unfoldable pub afterTrade : Order → ℕ → List Order → List Order
 afterTrade o q os = pick (leb (o .shares) q) (without (o .id) os) (insert (reduced q o) (without (o .id) os))
 
+-- what a meeting brings about: an execution, or that the resting order is cancelled, with its id and its shares left
+pub data Happening : Type 0 where
+  traded : Execution → Happening
+  withdrawn : ℕ → ℕ → Happening
+
 -- one meeting of the working order w with the resting order o: what happens, and what is left of w and of the book
 pub record Meeting : Type 0 where
-  pub execution : Execution
+  pub happening : Happening
   pub left : Order
   pub orders : List Order
 
-unfoldable pub meeting : Order → Order → List Order → Meeting
-meeting w o os =
+-- they trade
+unfoldable pub trading : Order → Order → List Order → Meeting
+trading w o os =
     let q : ℕ = min (w .shares) (o .shares) in
-    record { execution = execution w o q; left = reduced q w; orders = afterTrade o q os }
+    record { happening = traded (execution w o q); left = reduced q w; orders = afterTrade o q os }
 
+-- No. 7: "the resting one is cancelled .. and matching goes on"
+unfoldable pub withdrawing : Order → Order → List Order → Meeting
+withdrawing w o os = record { happening = withdrawn (o .id) (o .shares); left = w; orders = without (o .id) os }
+
+-- No. 7: "of the same owner above 0"
+unfoldable pub sameOwner : Order → Order → Bool
+sameOwner w o = ltb 0 (w .owner) && eqb (w .owner) (o .owner)
+
+-- No. 7: "Where a working order would trade with a resting order of the same owner above 0"
+unfoldable pub meeting : Order → Order → List Order → Meeting
+meeting w o os = pick (sameOwner w o) (withdrawing w o os) (trading w o os)
+
+-- "in the order of happening"
 pub record Matched : Type 0 where
-  pub executions : List Execution
+  pub happenings : List Happening
   pub left : Order
   pub orders : List Order
 
 -- further is matching with what a meeting leaves
 unfoldable pub matchingWith : (Order → List Order → Matched) → Option Order → Order → List Order → Matched
-matchingWith further none w os = record { executions = []; left = w; orders = os }
+matchingWith further none w os = record { happenings = []; left = w; orders = os }
 matchingWith further (some o) w os =
     let x : Meeting = meeting w o os in
     let m : Matched = further (x .left) (x .orders) in
-    record { executions = x.execution ∷ m.executions; left = m.left; orders = m.orders }
+    record { happenings = x.happening ∷ m.happenings; left = m.left; orders = m.orders }
 
 -- at most n meetings
 unfoldable pub matchingUpTo : ℕ → Order → List Order → Matched
-matchingUpTo zero w os = record { executions = []; left = w; orders = os }
+matchingUpTo zero w os = record { happenings = []; left = w; orders = os }
 matchingUpTo (suc n) w os = matchingWith (matchingUpTo n) (counterparty w os) w os
 
 -- each meeting takes an order out of the book or the last shares of w, so as many as there are orders are enough

@@ -21,4 +21,5 @@ recordOf o =
       used = flagWord (o .used);
       clear = flagWord (o .clear);
       market = flagWord (o .market);
+      owner = o.owner;
     }

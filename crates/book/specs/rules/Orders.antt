@@ -29,6 +29,7 @@ reduced q o =
       used = o.used;
       clear = o.clear;
       market = o.market;
+      owner = o.owner;
     }
 
 -- the order that rests under an id

@@ -14,14 +14,14 @@ abbrev pub headerWords : ℕ
 headerWords = 16
 
 abbrev pub orderWidth : ℕ
-orderWidth = 14
+orderWidth = 15
 
 abbrev pub venueWords : ℕ
 venueWords = headerWords + 256 * orderWidth
 
 -- the number of this layout, and the header word that has it: words that were stored under another layout are no venue
 abbrev pub layoutNumber : ℕ
-layoutNumber = 3
+layoutNumber = 4
 
 abbrev pub layoutWord : ℕ
 layoutWord = 15
@@ -51,6 +51,7 @@ orderOf l =
       used = eqb (getD l 11 0) 1;
       clear = eqb (getD l 12 0) 1;
       market = eqb (getD l 13 0) 1;
+      owner = getD l 14 0;
     }
 
 abbrev pub flagWord : Bool → ℕ

@@ -8,7 +8,7 @@ use lib.Dec.{leb, ltb, eqb}
 use lib.ListN.{getD}
 use Rattle.numbers.specs.Tests.{pick}
 use Rattle.prices.specs.Prices.{legal, isBid}
-use Rattle.book.specs.rules.Sound.{slideAllowed, marketAllowed, soundOrder}
+use Rattle.book.specs.rules.Sound.{mostOwner, slideAllowed, marketAllowed, soundOrder}
 use Rattle.book.specs.rules.Words.{word, orderAt, flagsAt}
 
 -- the conditions on one order, in groups
@@ -16,8 +16,8 @@ use Rattle.book.specs.rules.Words.{word, orderAt, flagsAt}
 unfoldable pub fromOne : ℕ → ℕ → Bool
 fromOne x highest = leb 1 x && leb x highest
 
-unfoldable pub codesSound : ℕ → ℕ → ℕ → Bool
-codesSound mark life slide = eqb life 0 && (leb mark 3 && slideAllowed mark slide)
+unfoldable pub codesSound : ℕ → ℕ → ℕ → ℕ → Bool
+codesSound mark life slide owner = eqb life 0 && (leb owner mostOwner && (leb mark 3 && slideAllowed mark slide))
 
 unfoldable pub pricesSound : ℕ → ℕ → ℕ → ℕ → Bool
 pricesSound step limit price bid = legal step limit && (legal step price && isBid step bid)

@@ -133,8 +133,17 @@ mul-t59 c = search needs
 shared-slice-read-t61 : tie.Need-shared-slice-read-t61
 shared-slice-read-t61 c = search needs
 
+add-t63 : tie.Need-add-t63
+add-t63 c = search needs
+
+mul-t64 : tie.Need-mul-t64
+mul-t64 c = search needs
+
+shared-slice-read-t66 : tie.Need-shared-slice-read-t66
+shared-slice-read-t66 c = search needs
+
 returns : tie.Need-returns
-returns c = let s = c .before .before .before .before .before .before .before .before .before .before .before .before .before .before in loaded (s .args .w .now) (s .args .i) (s .pre .1)
+returns c = let s = c .before .before .before .before .before .before .before .before .before .before .before .before .before .before .before in loaded (s .args .w .now) (s .args .i) (s .pre .1)
 
 pub load-spec : {M : Type 1} → statement M
 load-spec =
@@ -183,4 +192,7 @@ load-spec =
     add-t58
     mul-t59
     shared-slice-read-t61
+    add-t63
+    mul-t64
+    shared-slice-read-t66
     returns)
