@@ -15,7 +15,7 @@ use book::words;
 ghost use Prim.Native.Nat.{_≤_};
 ghost use lib.Dec.{T};
 ghost use lib.ListN.{length};
-ghost use Rattle.engine.specs.declared.Event.the-variants.{Entry as entry, Cancel as cancel, Bid as bid, Tape as tape, DayEnd as dayEnd};
+ghost use Rattle.engine.specs.declared.Event.the-variants.{Entry as entry, Cancel as cancel, Bid as bid, Tape as tape, DayEnd as dayEnd, OwnedEntry as ownedEntry};
 ghost use Rattle.engine.specs.rules.Refusals.{leastBuffer};
 ghost use Rattle.engine.specs.steps.Memory.{MayJudge};
 ghost use Rattle.engine.specs.claims.Calls.{Applied};
@@ -26,9 +26,19 @@ fn apply_entry(w: &mut [u32], reports: &mut [u8], e: Entry) -> Answer
     requires { ⌜ MayJudge (now w) (now reports) ⌝ }
     ensures { λ r. ⌜ Applied (now (w .entry)) (entry e) (now (reports .entry)) (outcomeOfAnswer r) (now (w .exit)) (now (reports .exit)) ⌝ }
 {
-    match refuse::entry_refusal(w, e) {
+    match refuse::entry_refusal(w, e, MayRefuse::Allow) {
         MayRefuse::Refuse(refusal) => Answer::Refused(refusal),
-        MayRefuse::Allow => Answer::Accepted(enter::enter(w, reports, e)),
+        MayRefuse::Allow => Answer::Accepted(enter::enter(w, reports, e, 0)),
+    }
+}
+
+fn apply_owned_entry(w: &mut [u32], reports: &mut [u8], e: Entry, owner: u32) -> Answer
+    requires { ⌜ MayJudge (now w) (now reports) ⌝ }
+    ensures { λ r. ⌜ Applied (now (w .entry)) (ownedEntry e owner) (now (reports .entry)) (outcomeOfAnswer r) (now (w .exit)) (now (reports .exit)) ⌝ }
+{
+    match refuse::entry_refusal(w, e, refuse::owner_refusal(owner)) {
+        MayRefuse::Refuse(refusal) => Answer::Refused(refusal),
+        MayRefuse::Allow => Answer::Accepted(enter::enter(w, reports, e, owner)),
     }
 }
 
@@ -83,6 +93,7 @@ fn apply_kind(w: &mut [u32], event: Event, reports: &mut [u8]) -> Answer
         Event::Bid(price) => apply_bid(w, reports, price),
         Event::Tape(price) => apply_tape(w, reports, price),
         Event::DayEnd(close) => apply_day_end(w, reports, close),
+        Event::OwnedEntry(e, owner) => apply_owned_entry(w, reports, e, owner),
     }
 }
 

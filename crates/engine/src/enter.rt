@@ -9,27 +9,27 @@ ghost use mathlib.Core.Path.{_≡_};
 ghost use Prim.Native.Nat.{_+_, _<_};
 ghost use lib.ListN.{length};
 ghost use Rattle.book.specs.rules.Words.{resting};
-ghost use Rattle.engine.specs.declared.Event.the-variants.{Entry as entry};
 ghost use Rattle.engine.specs.rules.Working.{orderOf};
 ghost use Rattle.engine.specs.steps.Memory.{Room, effectIn, MayAccept, Accepts};
 ghost use Rattle.engine.specs.rules.Layout.{venueOf};
+ghost use Rattle.engine.specs.steps.Steps.{entryBy};
 
-// The order of an entry, with the next stamp.
-fn next_order(w: &[u32], e: Entry) -> Order
+// The order of an entry, with the next stamp and its owner.
+fn next_order(w: &[u32], e: Entry, owner: u32) -> Order
     requires { ⌜ MayAccept (now w) ⌝ }
-    ensures { λ r. ⌜ r ≡ orderOf (venueOf (now (w .entry)) .market) (venueOf (now (w .entry)) .lastStamp + 1) e ⌝ }
+    ensures { λ r. ⌜ r ≡ orderOf (venueOf (now (w .entry)) .market) (venueOf (now (w .entry)) .lastStamp + 1) owner e ⌝ }
 {
     let stamp = words::header_word(w, header::LAST_STAMP) + 1;
-    working::order_of(header::market(w), stamp, e)
+    working::order_of(header::market(w), stamp, owner, e)
 }
 
-// An entry whose id is new, while there is room in the book.
-pub(crate) fn enter(w: &mut [u32], reports: &mut [u8], e: Entry) -> usize
+// An entry whose id is new, while there is room in the book; owner 0 is that of kind 1.
+pub(crate) fn enter(w: &mut [u32], reports: &mut [u8], e: Entry, owner: u32) -> usize
     requires { ⌜ MayAccept (now w) × (length (resting (now w)) < 256) × (venueOf (now w) .lastId < e .id) ⌝ }
-    requires { ⌜ Room (now reports) 0 (effectIn (now w) (entry e) .reports) ⌝ }
-    ensures { λ r. ⌜ Accepts (now (w .entry)) (now (w .exit)) (now (reports .entry)) (now (reports .exit)) (entry e) r ⌝ }
+    requires { ⌜ Room (now reports) 0 (effectIn (now w) (entryBy e owner) .reports) ⌝ }
+    ensures { λ r. ⌜ Accepts (now (w .entry)) (now (w .exit)) (now (reports .entry)) (now (reports .exit)) (entryBy e owner) r ⌝ }
 {
-    let o = next_order(w, e);
+    let o = next_order(w, e, owner);
     let at = report::write_accepted(reports, 0, o.id, o.stamp, o.price);
     let end = working::work(w, reports, at, o);
     header::finish(w, o.id, o.stamp);

@@ -27,7 +27,7 @@ fn asked_order(w: &[u32], mark: u32, price: u32, shares: u32) -> Order
         life: 0,
         slide: 0,
     };
-    working::order_of(header::market(w), 0, e)
+    working::order_of(header::market(w), 0, 0, e)
 }
 
 // Whether an entry with a mark, a price and shares would fill in full now, and how many orders were read to tell: any words, any numbers.

@@ -1,4 +1,4 @@
-// The venue of document 01, with document 02 up to No. 6: events, reports, refusals and the law of demand 3. The fourth layer.
+// The venue of document 01, with document 02 up to No. 7: events, reports, refusals and the law of demand 3. The fourth layer.
 pub mod apply;
 pub mod copy;
 mod enter;
@@ -46,6 +46,8 @@ pub enum Event {
     Tape(u32),
     // the close
     DayEnd(u32),
+    // an entry and its owner (No. 7); one that is sent as `Entry` has owner 0
+    OwnedEntry(Entry, u32),
 }
 
 // What becomes of the remainder of a working order: there is none, it is cancelled for a cause, or it rests.
@@ -98,6 +100,8 @@ pub enum Refusal {
     SlideOutOfRange,
     // a slide other than 0 on an order that isn't short
     SlideOnWrongMark,
+    // an owner that isn't 1 to 65,535
+    OwnerOutOfRange,
 }
 
 // Whether an event or a question is refused, and why.

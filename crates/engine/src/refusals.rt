@@ -20,5 +20,6 @@ pub fn number_of(refusal: Refusal) -> u32
         Refusal::MarkOutOfRange => 18,
         Refusal::SlideOutOfRange => 19,
         Refusal::SlideOnWrongMark => 20,
+        Refusal::OwnerOutOfRange => 21,
     }
 }

@@ -16,10 +16,9 @@ ghost use Rattle.numbers.specs.Tests.{conj};
 ghost use Rattle.prices.specs.Prices.{legal, isBid};
 ghost use Rattle.book.specs.rules.Words.{venueWords};
 ghost use Rattle.book.specs.steps.BookSteps.{Book};
-ghost use Rattle.engine.specs.declared.Event.the-variants.{Entry as entry};
 ghost use Rattle.engine.specs.rules.Working.{isMarket};
 ghost use Rattle.engine.specs.rules.Sound.{headerConditions};
-ghost use Rattle.engine.specs.rules.Refusals.{refusalOfTerms, refusalOfMark, refusalOfOtherCodes, refusalOfCodes, refusalOfAsked, refusalOfPlace, refusalOfKind};
+ghost use Rattle.engine.specs.rules.Refusals.{refusalOfTerms, refusalOfMark, refusalOfOtherCodes, refusalOfCodes, refusalOfOwner, refusalOfAsked, refusalOfPlace, refusalOfEntry};
 ghost use Rattle.engine.specs.rules.Layout.{venueOf, soundWords};
 ghost use Rattle.engine.specs.rules.Answers.{refusedWith};
 ghost use Rattle.engine.specs.steps.Memory.{HasStep};
@@ -119,6 +118,19 @@ fn codes_refusal(e: Entry) -> MayRefuse
     }
 }
 
+// The owner of an entry of kind 6.
+pub(crate) fn owner_refusal(owner: u32) -> MayRefuse
+    ensures { λ r. ⌜ refusedWith r ≡ refusalOfOwner owner ⌝ }
+{
+    if owner < 1 {
+        return MayRefuse::Refuse(Refusal::OwnerOutOfRange);
+    }
+    if owner > sound::MOST_OWNER {
+        return MayRefuse::Refuse(Refusal::OwnerOutOfRange);
+    }
+    MayRefuse::Allow
+}
+
 // The place of an entry: its id, and room in the book.
 fn place_refusal(w: &[u32], id: u32) -> MayRefuse
     requires { ⌜ Book (now w) ⌝ }
@@ -144,15 +156,19 @@ pub(crate) fn asked_refusal(w: &[u32], mark: u32, price: u32, shares: u32) -> Ma
     }
 }
 
-pub(crate) fn entry_refusal(w: &[u32], e: Entry) -> MayRefuse
+// What an entry is refused for, its parts in their order; of its owner the caller says it.
+pub(crate) fn entry_refusal(w: &[u32], e: Entry, of_owner: MayRefuse) -> MayRefuse
     requires { ⌜ HasStep (now w) ⌝ }
-    ensures { λ r. ⌜ refusedWith r ≡ refusalOfKind (venueOf (now (w .entry))) (entry e) ⌝ }
+    ensures { λ r. ⌜ refusedWith r ≡ refusalOfEntry (venueOf (now (w .entry))) e (refusedWith «of_owner») ⌝ }
 {
     match terms_refusal(w, e.price, e.shares) {
         MayRefuse::Refuse(refusal) => MayRefuse::Refuse(refusal),
         MayRefuse::Allow => match codes_refusal(e) {
             MayRefuse::Refuse(refusal) => MayRefuse::Refuse(refusal),
-            MayRefuse::Allow => place_refusal(w, e.id),
+            MayRefuse::Allow => match of_owner {
+                MayRefuse::Refuse(refusal) => MayRefuse::Refuse(refusal),
+                MayRefuse::Allow => place_refusal(w, e.id),
+            },
         },
     }
 }

@@ -28,11 +28,13 @@ ghost use Rattle.engine.specs.rules.Market.{permittedNow};
 ghost use Rattle.engine.specs.rules.Reports.{executed};
 ghost use Rattle.engine.specs.rules.Records.{reportBytes};
 ghost use Rattle.engine.specs.rules.Working;
-ghost use Rattle.engine.specs.rules.Working.{limitOf, followsBid, lifeOf, workingPrice, orderOf, remainder};
+ghost use Rattle.engine.specs.rules.Working.{limitOf, followsBid, lifeOf, workingPrice, orderOf, remainder, happened};
 ghost use Rattle.engine.specs.steps.Memory.{Ordered, Room, Does};
-ghost use Rattle.engine.specs.steps.Steps.{MayEnter, Meets, executionReports, Matches, restedOrCancelled};
+ghost use Rattle.engine.specs.steps.Steps.{MayEnter, Meets, matchingReports, Matches, restedOrCancelled};
 
 const IMMEDIATE_OR_CANCEL: u32 = 2;
+
+const SAME_FIRM: u32 = 5;
 
 pub(crate) const OPT_OUT: u32 = 3;
 
@@ -122,10 +124,10 @@ fn working_price(m: Market, mark: u32, price: u32) -> u32
     limit
 }
 
-// The order of an entry, with its stamp.
-pub(crate) fn order_of(m: Market, stamp: u32, e: Entry) -> Order
+// The order of an entry, with its stamp and its owner.
+pub(crate) fn order_of(m: Market, stamp: u32, owner: u32, e: Entry) -> Order
     requires { ⌜ T (isBid (m .step) (m .bid)) ⌝ }
-    ensures { λ r. ⌜ r ≡ orderOf m stamp e ⌝ }
+    ensures { λ r. ⌜ r ≡ orderOf m stamp owner e ⌝ }
 {
     let price = working_price(m, e.mark, e.price);
     let limit = limit_of(e.mark, e.price);
@@ -146,6 +148,7 @@ pub(crate) fn order_of(m: Market, stamp: u32, e: Entry) -> Order
         used: false,
         clear: m.bid < price,
         market,
+        owner,
     }
 }
 
@@ -171,11 +174,11 @@ fn counterparty(w: &[u32], o: Order) -> Position
     priority::best(w, o)
 }
 
-// One meeting: o trades with the order at position i.
-fn meet(w: &mut [u32], reports: &mut [u8], at: usize, o: Order, i: usize) -> WorkingOrder
+// o trades with the order at position i.
+fn trade_with(w: &mut [u32], reports: &mut [u8], at: usize, o: Order, i: usize) -> WorkingOrder
     requires { ⌜ Ordered (now w) × (i < length (resting (now w))) ⌝ }
-    requires { ⌜ Room (now reports) at (executed (Matching.meeting o (getD (resting (now w)) i emptyOrder) (resting (now w)) .execution) ∷ []) ⌝ }
-    ensures { λ r. ⌜ Meets (now (w .entry)) (now (w .exit)) (now (reports .entry)) (now (reports .exit)) at (Matching.meeting o (getD (resting (now (w .entry))) i emptyOrder) (resting (now (w .entry)))) (r .left) (r .end) ⌝ }
+    requires { ⌜ Room (now reports) at (happened (Matching.trading o (getD (resting (now w)) i emptyOrder) (resting (now w)) .happening) ∷ []) ⌝ }
+    ensures { λ r. ⌜ Meets (now (w .entry)) (now (w .exit)) (now (reports .entry)) (now (reports .exit)) at (Matching.trading o (getD (resting (now (w .entry))) i emptyOrder) (resting (now (w .entry)))) (r .left) (r .end) ⌝ }
 {
     let x = words::load(w, i);
     let q = smaller(o.shares, x.shares);
@@ -185,9 +188,33 @@ fn meet(w: &mut [u32], reports: &mut [u8], at: usize, o: Order, i: usize) -> Wor
     WorkingOrder { left, end }
 }
 
-// Trades o with the orders that it reaches, best first.
+// The order at position i, which is of o's owner, is cancelled.
+fn withdraw(w: &mut [u32], reports: &mut [u8], at: usize, o: Order, i: usize) -> WorkingOrder
+    requires { ⌜ Ordered (now w) × (i < length (resting (now w))) ⌝ }
+    requires { ⌜ Room (now reports) at (happened (Matching.withdrawing o (getD (resting (now w)) i emptyOrder) (resting (now w)) .happening) ∷ []) ⌝ }
+    ensures { λ r. ⌜ Meets (now (w .entry)) (now (w .exit)) (now (reports .entry)) (now (reports .exit)) at (Matching.withdrawing o (getD (resting (now (w .entry))) i emptyOrder) (resting (now (w .entry)))) (r .left) (r .end) ⌝ }
+{
+    let x = words::load(w, i);
+    let end = report::write_cancelled(reports, at, x.id, x.shares, SAME_FIRM);
+    place::remove(w, i);
+    WorkingOrder { left: o, end }
+}
+
+// One meeting of o with the order at position i.
+fn meet(w: &mut [u32], reports: &mut [u8], at: usize, o: Order, i: usize) -> WorkingOrder
+    requires { ⌜ Ordered (now w) × (i < length (resting (now w))) ⌝ }
+    requires { ⌜ Room (now reports) at (happened (Matching.meeting o (getD (resting (now w)) i emptyOrder) (resting (now w)) .happening) ∷ []) ⌝ }
+    ensures { λ r. ⌜ Meets (now (w .entry)) (now (w .exit)) (now (reports .entry)) (now (reports .exit)) at (Matching.meeting o (getD (resting (now (w .entry))) i emptyOrder) (resting (now (w .entry)))) (r .left) (r .end) ⌝ }
+{
+    if priority::same_owner(o, words::load(w, i)) {
+        return withdraw(w, reports, at, o, i);
+    }
+    trade_with(w, reports, at, o, i)
+}
+
+// Meets o with the orders that it reaches, best first.
 fn match_order(w: &mut [u32], reports: &mut [u8], at: usize, o: Order) -> WorkingOrder
-    requires { ⌜ MayEnter o (now w) × Room (now reports) at (executionReports (Matching.matching o (resting (now w)))) ⌝ }
+    requires { ⌜ MayEnter o (now w) × Room (now reports) at (matchingReports (Matching.matching o (resting (now w)))) ⌝ }
     ensures { λ r. ⌜ Matches (now (w .entry)) (now (w .exit)) (now (reports .entry)) (now (reports .exit)) at o (r .left) (r .end) ⌝ }
 {
     let mut left = o;

@@ -11,7 +11,7 @@ use Rattle.book.specs.rules.Matching.{Execution}
 use Rattle.engine.specs.declared.Market.{Market}
 use Rattle.engine.specs.declared.Entry.{Entry}
 use Rattle.engine.specs.declared.Event.{Event}
-use Rattle.engine.specs.declared.Event.the-variants.{Entry as entry, Cancel as cancel, Bid as bid, Tape as tape, DayEnd as dayEnd}
+use Rattle.engine.specs.declared.Event.the-variants.{Entry as entry, Cancel as cancel, Bid as bid, Tape as tape, DayEnd as dayEnd, OwnedEntry as ownedEntry}
 use Rattle.engine.specs.rules.Market.{openingMarket, marketAfter}
 use Rattle.engine.specs.rules.Reports.{Report, accepted, executed, cancelled, repriced, restrictionStarts, dayEnded}
 use Rattle.engine.specs.rules.Run.{Answered}
@@ -91,6 +91,7 @@ talliesAfter (cancel i) c = c
 talliesAfter (bid b) c = c
 talliesAfter (tape p) c = c
 talliesAfter (dayEnd x) c = c
+talliesAfter (ownedEntry e k) c = startTally e c
 
 -- "Report 1 or 4 notes its price and that bid in the tally of its id, as last given; that order is now the working one"
 abbrev pub givePrice : ℕ → ℕ → ℕ → Tallies → Tallies

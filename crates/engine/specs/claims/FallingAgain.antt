@@ -15,7 +15,7 @@ use Rattle.prices.specs.Restriction.{triggers, restrictionOn}
 use Rattle.prices.specs.FallingAgain.{phaseBefore}
 use Rattle.engine.specs.declared.Market.{Market}
 use Rattle.engine.specs.declared.Event.{Event}
-use Rattle.engine.specs.declared.Event.the-variants.{Entry as entry, Cancel as cancel, Bid as bid, Tape as tape, DayEnd as dayEnd}
+use Rattle.engine.specs.declared.Event.the-variants.{Entry as entry, Cancel as cancel, Bid as bid, Tape as tape, DayEnd as dayEnd, OwnedEntry as ownedEntry}
 use Rattle.engine.specs.rules.Market.{marketAfter}
 use Rattle.engine.specs.rules.Reports.{Report, accepted, executed, cancelled, repriced, restrictionStarts, dayEnded}
 use Rattle.engine.specs.rules.Pass.{Effect}
@@ -109,6 +109,7 @@ fallsAfter (cancel i) f = f
 fallsAfter (bid b) f = f
 fallsAfter (tape p) f = record { close = f.close; today = f .today || triggers (f .close) p; dayBefore = f.dayBefore }
 fallsAfter (dayEnd c) f = record { close = c; today = false; dayBefore = f.today }
+fallsAfter (ownedEntry e k) f = f
 
 -- "A refused event changes nothing"
 abbrev pub fallsAnswered : Falls → Event → Outcome (List Report) → Falls
@@ -130,6 +131,7 @@ phaseReportsDue (cancel i) f = []
 phaseReportsDue (bid b) f = []
 phaseReportsDue (tape p) f = pick (not (f .today) && triggers (f .close) p) (restrictionStarts ∷ []) []
 phaseReportsDue (dayEnd c) f = dayEnded (pick (f .today) 2 0) ∷ []
+phaseReportsDue (ownedEntry e k) f = []
 
 -- the reports 5 and 6 among reports
 abbrev pub phaseReports : List Report → List Report

@@ -143,7 +143,7 @@ pub record TrueOf (e : Entry) (rs : List Report) (answer : Outcome FrontRead) : 
 abbrev pub TrueOfTheEffect : Type 0
 TrueOfTheEffect =
     (v : Venue) (e : Entry) → v.lastId < e.id → (r : FrontRead) → answerFor v e ≡ gives r →
-    r.fills ≡ eqb (executedFor (e .id) (effectOfEntry (v .market) v e .reports)) (e .shares)
+    r.fills ≡ eqb (executedFor (e .id) (effectOfEntry (v .market) v 0 e .reports)) (e .shares)
 
 -- where an entry is accepted, whatever its show, life and slide, the answer for its mark, price and shares is true of its reports
 abbrev pub TellsTheTruth : Type 0

@@ -13,10 +13,11 @@ use Rattle.prices.specs.Prices.{isStep, permitted}
 use Rattle.prices.specs.HalfCents.{legalBefore, isBidBefore, permittedBefore}
 use Rattle.book.specs.declared.Order.{Order}
 use Rattle.book.specs.rules.Orders.{find}
-use Rattle.book.specs.rules.Sound.{mostShares, slideAllowed, marketAllowed, idsRise, stampsDiffer}
+use Rattle.book.specs.rules.Sound.{mostShares, mostOwner, slideAllowed, marketAllowed, idsRise, stampsDiffer}
 use Rattle.engine.specs.declared.Market.{Market}
+use Rattle.engine.specs.declared.Entry.{Entry}
 use Rattle.engine.specs.declared.Event.{Event}
-use Rattle.engine.specs.declared.Event.the-variants.{Entry as entry, Cancel as cancel, Bid as bid, Tape as tape, DayEnd as dayEnd}
+use Rattle.engine.specs.declared.Event.the-variants.{Entry as entry, Cancel as cancel, Bid as bid, Tape as tape, DayEnd as dayEnd, OwnedEntry as ownedEntry}
 use Rattle.engine.specs.declared.Move.{Move}
 use Rattle.engine.specs.declared.Move.the-variants.{Stay, Cancel, Reprice}
 use Rattle.engine.specs.rules.Market.{marketAfter, restricted}
@@ -24,10 +25,10 @@ use Rattle.engine.specs.rules.Working.{isMarket, limitOf, workingPrice}
 use Rattle.engine.specs.rules.Pass.{displayedClear, moveDown, slideOnce, maySlide, moveOf}
 use Rattle.engine.specs.rules.Venue.{Venue, opened, opening, effectOf}
 use Rattle.engine.specs.rules.Sound.{mostOrders, mostEvents}
-use Rattle.engine.specs.rules.Refusals.{refuseUnless, firstOf, refusalOfCodes, refusalOfPlace, rests, leastBuffer, refusal}
+use Rattle.engine.specs.rules.Refusals.{refuseUnless, firstOf, refusalOfCodes, refusalOfOwner, refusalOfPlace, rests, leastBuffer, refusal}
 use Rattle.engine.specs.rules.Run.{step}
 
--- Before No. 2: the parts of an event that look at a price, a bid or a permitted price, with document 01's; codes and place are those of now
+-- Before No. 2: the parts of an event that look at a price, a bid or a permitted price, with document 01's; codes, owner and place are those of now
 
 -- the conditions of a venue record (16)
 abbrev pub orderBefore : ℕ → ℕ → Order → Bool
@@ -35,7 +36,7 @@ orderBefore lastId lastStamp o =
     conj
     (leb (o .id) lastId ∷ leb (o .mark) 3 ∷ legalBefore (o .limit) ∷ leb 1 (o .shares) ∷ leb (o .shares) mostShares ∷ leb (o .show) 1 ∷ eqb (o .life) 0
     ∷ slideAllowed (o .mark) (o .slide) ∷ leb 1 (o .stamp) ∷ leb (o .stamp) lastStamp ∷ legalBefore (o .price) ∷ isBidBefore (o .«entry_bid»)
-    ∷ marketAllowed (o .market) (o .mark) (o .limit) ∷ [])
+    ∷ marketAllowed (o .market) (o .mark) (o .limit) ∷ leb (o .owner) mostOwner ∷ [])
 
 abbrev pub soundBefore : Venue → Bool
 soundBefore v =
@@ -45,18 +46,22 @@ soundBefore v =
     ∷ leb (v .lastStamp) (256 * v.acceptedEvents) ∷ [])
 
 -- the refusals of each kind
-abbrev pub refusalBefore : Venue → Event → Option ℕ
-refusalBefore v (entry e) =
+abbrev pub refusalOfEntryBefore : Venue → Entry → Option ℕ → Option ℕ
+refusalOfEntryBefore v e ofOwner =
     firstOf
     (refuseUnless (isMarket (e .price) || legalBefore (e .price)) 3
     (refuseUnless (leb 1 (e .shares)) 4
     (refuseUnless (leb (e .shares) mostShares) 4
     none)))
-    (firstOf (refusalOfCodes e) (refusalOfPlace v (e .id)))
+    (firstOf (refusalOfCodes e) (firstOf ofOwner (refusalOfPlace v (e .id))))
+
+abbrev pub refusalBefore : Venue → Event → Option ℕ
+refusalBefore v (entry e) = refusalOfEntryBefore v e none
 refusalBefore v (cancel i) = refuseUnless (rests (find i (v .orders))) 8 none
 refusalBefore v (bid b) = refuseUnless (isBidBefore b) 3 none
 refusalBefore v (tape p) = refuseUnless (legalBefore p) 3 none
 refusalBefore v (dayEnd c) = refuseUnless (legalBefore c) 3 none
+refusalBefore v (ownedEntry e k) = refusalOfEntryBefore v e (refusalOfOwner k)
 
 -- the price that an entry works at
 abbrev pub workingBefore : Market → ℕ → ℕ → ℕ

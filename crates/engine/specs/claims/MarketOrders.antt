@@ -15,7 +15,7 @@ use Rattle.book.specs.rules.Words.{resting}
 use Rattle.engine.specs.declared.Market.{Market}
 use Rattle.engine.specs.declared.Entry.{Entry}
 use Rattle.engine.specs.declared.Event.{Event}
-use Rattle.engine.specs.declared.Event.the-variants.{Entry as entry, Cancel as cancel, Bid as bid, Tape as tape, DayEnd as dayEnd}
+use Rattle.engine.specs.declared.Event.the-variants.{Entry as entry, Cancel as cancel, Bid as bid, Tape as tape, DayEnd as dayEnd, OwnedEntry as ownedEntry}
 use Rattle.engine.specs.declared.Move.{Move}
 use Rattle.engine.specs.declared.Move.the-variants.{Stay, Cancel, Reprice}
 use Rattle.engine.specs.rules.Market.{marketAfter, restricted, permittedNow}
@@ -23,7 +23,7 @@ use Rattle.engine.specs.rules.Reports.{accepted}
 use Rattle.engine.specs.rules.Working.{Worked, orderOf, work}
 use Rattle.engine.specs.rules.Pass.{displayedClear, slideDown, moveOf, Effect}
 use Rattle.engine.specs.rules.Venue.{Venue, effectOfEntry}
-use Rattle.engine.specs.rules.Refusals.{refuseUnless, firstOf, refusalOfCodes, refusalOfPlace, refusalOfKind}
+use Rattle.engine.specs.rules.Refusals.{refuseUnless, firstOf, refusalOfCodes, refusalOfPlace, refusalOfEntry}
 use Rattle.engine.specs.rules.Run.{step}
 use Rattle.engine.specs.rules.Layout.{venueOf}
 use Rattle.engine.specs.claims.Calls.{Applied}
@@ -39,9 +39,9 @@ termsBefore s price shares =
     none))
 
 -- the order of an entry: "works at its limit; a restricted one at the larger of limit and permitted price, adjusted if that is above the limit";
--- market is the flag that No. 1 adds to its record
-abbrev pub limitOrder : Market → ℕ → Entry → Bool → Order
-limitOrder m stamp e market =
+-- market is the flag that No. 1 adds to its record, k the owner that No. 7 does
+abbrev pub limitOrder : Market → ℕ → ℕ → Entry → Bool → Order
+limitOrder m stamp k e market =
     let p : ℕ = pick (restricted m (e .mark)) (max (e .price) (permittedNow m)) (e .price) in
     record {
       id = e.id;
@@ -58,13 +58,14 @@ limitOrder m stamp e market =
       used = false;
       clear = ltb (m .bid) p;
       market = market;
+      owner = k;
     }
 
 -- what an accepted entry does: "1 accepted: id, stamp, working price", and it works
-abbrev pub effectBefore : Market → Venue → Entry → Effect
-effectBefore m v e =
+abbrev pub effectBefore : Market → Venue → ℕ → Entry → Effect
+effectBefore m v k e =
     let s : ℕ = v.lastStamp + 1 in
-    let o : Order = limitOrder m s e false in
+    let o : Order = limitOrder m s k e false in
     let w : Worked = work o (v .orders) in
     record { reports = accepted (e .id) s (o .price) ∷ w.reports; orders = w.orders; stamp = s }
 
@@ -83,21 +84,21 @@ withTerms price life e = record { id = e.id; mark = e.mark; price = price; share
 
 -- "A restricted short with a bid present instead counts as limit 1 and slides, rests or is cancelled by 01's rules, its life included .. the order
 -- record says that it is one"; it works at the permitted price and is adjusted
-pub record MarketShort (m : Market) (stamp : ℕ) (e : Entry) : Type 0 where
-  pub order : orderOf m stamp e ≡ limitOrder m stamp (withTerms 1 (e .life) e) true
-  pub price : (orderOf m stamp e) .price ≡ permittedNow m
-  pub adjusted : (orderOf m stamp e) .adjusted ≡ true
+pub record MarketShort (m : Market) (stamp k : ℕ) (e : Entry) : Type 0 where
+  pub order : orderOf m stamp k e ≡ limitOrder m stamp k (withTerms 1 (e .life) e) true
+  pub price : (orderOf m stamp k e) .price ≡ permittedNow m
+  pub adjusted : (orderOf m stamp k e) .adjusted ≡ true
 
 -- "A buy works at 100,000,000 and any sell at 1, as immediate or cancel"
-pub record Immediate (m : Market) (stamp : ℕ) (e : Entry) : Type 0 where
-  pub order : orderOf m stamp e ≡ limitOrder m stamp (withTerms (pick (eqb (e .mark) 0) highest 1) 1 e) false
-  pub price : (orderOf m stamp e) .price ≡ pick (eqb (e .mark) 0) highest 1
+pub record Immediate (m : Market) (stamp k : ℕ) (e : Entry) : Type 0 where
+  pub order : orderOf m stamp k e ≡ limitOrder m stamp k (withTerms (pick (eqb (e .mark) 0) highest 1) 1 e) false
+  pub price : (orderOf m stamp k e) .price ≡ pick (eqb (e .mark) 0) highest 1
 
 abbrev pub MarketOrdersWork : Type 0
 MarketOrdersWork =
-    (m : Market) (stamp : ℕ) (e : Entry) → e.price ≡ 0 →
+    (m : Market) (stamp k : ℕ) (e : Entry) → e.price ≡ 0 →
     let t : Bool = restricted m (e .mark) && ltb 0 (m .bid) in
-    (T t → MarketShort m stamp e) × (T (not t) → Immediate m stamp e)
+    (T t → MarketShort m stamp k e) × (T (not t) → Immediate m stamp k e)
 
 -- A resting market short
 
@@ -114,6 +115,7 @@ runsPass (cancel i) = false
 runsPass (bid b) = true
 runsPass (tape p) = true
 runsPass (dayEnd c) = false
+runsPass (ownedEntry e k) = false
 
 -- "With no bid a resting market short stays where it is": after a bid or tape event that leaves no bid it rests as it did, in every field
 abbrev pub MarketShortsStay : Type 0
@@ -134,10 +136,11 @@ MarketShortsStayInCalls =
 abbrev pub MovesAsBefore : Type 0
 MovesAsBefore = (m : Market) (o : Order) → T (not (o .market && eqb (m .bid) 0)) → moveOf m o ≡ moveBefore m o
 
--- an entry with a price other than 0 has the terms of before, beside the codes and the place of now, and reports and leaves what it did before
+-- an entry with a price other than 0, of either kind, has the terms of before, beside the codes, owner and place of now, and reports and leaves what it
+-- did before
 pub record EntryAsBefore (v : Venue) (e : Entry) : Type 0 where
-  pub refusal : refusalOfKind v (entry e) ≡ firstOf (termsBefore (v.market.step) (e .price) (e .shares)) (firstOf (refusalOfCodes e) (refusalOfPlace v (e .id)))
-  pub effect : effectOfEntry (v .market) v e ≡ effectBefore (v .market) v e
+  pub refusal : (ofOwner : Option ℕ) → refusalOfEntry v e ofOwner ≡ firstOf (termsBefore (v.market.step) (e .price) (e .shares)) (firstOf (refusalOfCodes e) (firstOf ofOwner (refusalOfPlace v (e .id))))
+  pub effect : (k : ℕ) → effectOfEntry (v .market) v k e ≡ effectBefore (v .market) v k e
 
 abbrev pub EntriesAsBefore : Type 0
 EntriesAsBefore = (v : Venue) (e : Entry) → (e.price ≡ 0 → ⊥) → EntryAsBefore v e

@@ -1,4 +1,4 @@
--- Document 02, No. 3, which code was bad, as claims: with 18, 19 and 20 read as 5, every entry is answered as before. The order in which the codes are
+-- Document 02, No. 3, which code was bad, as claims: with 18, 19 and 20 read as 5, every event is answered as before. The order in which the codes are
 -- looked for is checked in `Examples`. Assumes nothing.
 use Prim.Native.Nat.{ℕ}
 use mathlib.Core.Path.{_≡_}
@@ -12,10 +12,11 @@ use Rattle.numbers.specs.Answers.{Outcome, gives, refuses}
 use Rattle.book.specs.rules.Sound.{slideAllowed}
 use Rattle.book.specs.rules.Words.{isBook}
 use Rattle.engine.specs.declared.Entry.{Entry}
-use Rattle.engine.specs.declared.Event.the-variants.{Entry as entry}
+use Rattle.engine.specs.declared.Event.{Event}
+use Rattle.engine.specs.declared.Event.the-variants.{Entry as entry, Cancel as cancel, Bid as bid, Tape as tape, DayEnd as dayEnd, OwnedEntry as ownedEntry}
 use Rattle.engine.specs.rules.Venue.{Venue}
 use Rattle.engine.specs.rules.Sound.{mostEvents, sound}
-use Rattle.engine.specs.rules.Refusals.{refuseUnless, firstOf, refusalOfTerms, refusalOfPlace, leastBuffer, refusal}
+use Rattle.engine.specs.rules.Refusals.{refuseUnless, firstOf, refusalOfTerms, refusalOfOwner, refusalOfPlace, refusalOfKind, leastBuffer, refusal}
 use Rattle.engine.specs.rules.Run.{Step, stepUnless, step}
 use Rattle.engine.specs.rules.Answers.{countOf, bufferAfter}
 use Rattle.engine.specs.rules.Layout.{venueOf}
@@ -25,16 +26,28 @@ use Rattle.engine.specs.claims.Calls.{Applied}
 abbrev pub codesBefore : Entry → Option ℕ
 codesBefore e = refuseUnless (conj (leb (e .mark) 3 ∷ leb (e .show) 1 ∷ leb (e .life) 1 ∷ slideAllowed (e .mark) (e .slide) ∷ [])) 5 none
 
--- the refusals of an entry, and what it does, with those in the place of the codes
-abbrev pub entryRefusalBefore : Venue → Entry → ℕ → Option ℕ
-entryRefusalBefore v e n =
+-- the refusals of an entry, of an event, and what it does, with those in the place of the codes; beside them the owner's are those of now
+abbrev pub entryBefore : Venue → Entry → Option ℕ → Option ℕ
+entryBefore v e ofOwner =
+    firstOf (refusalOfTerms (v.market.step) (e .price) (e .shares)) (firstOf (codesBefore e) (firstOf ofOwner (refusalOfPlace v (e .id))))
+
+abbrev pub kindBefore : Venue → Event → Option ℕ
+kindBefore v (entry e) = entryBefore v e none
+kindBefore v (cancel i) = refusalOfKind v (cancel i)
+kindBefore v (bid b) = refusalOfKind v (bid b)
+kindBefore v (tape p) = refusalOfKind v (tape p)
+kindBefore v (dayEnd c) = refusalOfKind v (dayEnd c)
+kindBefore v (ownedEntry e k) = entryBefore v e (refusalOfOwner k)
+
+abbrev pub refusalBefore : Venue → Event → ℕ → Option ℕ
+refusalBefore v x n =
     refuseUnless (sound v) 16
     (refuseUnless (leb leastBuffer n) 1
     (refuseUnless (ltb (v .acceptedEvents) mostEvents) 2
-    (firstOf (refusalOfTerms (v.market.step) (e .price) (e .shares)) (firstOf (codesBefore e) (refusalOfPlace v (e .id))))))
+    (kindBefore v x)))
 
-abbrev pub stepBefore : Venue → Entry → ℕ → Step
-stepBefore v e n = stepUnless (entryRefusalBefore v e n) v (entry e)
+abbrev pub stepBefore : Venue → Event → ℕ → Step
+stepBefore v x n = stepUnless (refusalBefore v x n) v x
 
 -- 18, 19 and 20 read as 5
 abbrev pub readAs5 : ℕ → ℕ
@@ -48,24 +61,24 @@ abbrev pub answerRead : {A : Type 0} → Outcome A → Outcome A
 answerRead (gives x) = gives x
 answerRead (refuses n) = refuses (readAs5 n)
 
--- read so, every entry is refused as before: nothing is accepted or refused that wasn't; the reports and the venue are those of before
-pub record ReadAsBefore (v : Venue) (e : Entry) (n : ℕ) : Type 0 where
-  pub refusal : refusalRead (refusal v (entry e) n) ≡ entryRefusalBefore v e n
-  pub answer : answerRead (step v (entry e) n .answer) ≡ stepBefore v e n .answer
-  pub venue : step v (entry e) n .venue ≡ stepBefore v e n .venue
+-- read so, every event is refused as before: nothing is accepted or refused that wasn't; the reports and the venue are those of before
+pub record ReadAsBefore (v : Venue) (x : Event) (n : ℕ) : Type 0 where
+  pub refusal : refusalRead (refusal v x n) ≡ refusalBefore v x n
+  pub answer : answerRead (step v x n .answer) ≡ stepBefore v x n .answer
+  pub venue : step v x n .venue ≡ stepBefore v x n .venue
 
 abbrev pub CodesAsBefore : Type 0
-CodesAsBefore = (v : Venue) (e : Entry) (n : ℕ) → ReadAsBefore v e n
+CodesAsBefore = (v : Venue) (x : Event) (n : ℕ) → ReadAsBefore v x n
 
 -- the same of every call of apply, on any words and any buffer
-abbrev pub stepInBefore : List ℕ → Entry → ℕ → Step
-stepInBefore w e n = pick (isBook w) (stepBefore (venueOf w) e n) (record { answer = refuses 16; venue = venueOf w })
+abbrev pub stepInBefore : List ℕ → Event → ℕ → Step
+stepInBefore w x n = pick (isBook w) (stepBefore (venueOf w) x n) (record { answer = refuses 16; venue = venueOf w })
 
-pub record CallAsBefore (w : List ℕ) (e : Entry) (b : List ℕ) (answer : Outcome ℕ) (w′ b′ : List ℕ) : Type 0 where
-  pub answers : answerRead answer ≡ countOf (stepInBefore w e (length b) .answer)
-  pub buffer : b′ ≡ bufferAfter b (stepInBefore w e (length b) .answer)
-  pub venue : venueOf w′ ≡ stepInBefore w e (length b) .venue
+pub record CallAsBefore (w : List ℕ) (x : Event) (b : List ℕ) (answer : Outcome ℕ) (w′ b′ : List ℕ) : Type 0 where
+  pub answers : answerRead answer ≡ countOf (stepInBefore w x (length b) .answer)
+  pub buffer : b′ ≡ bufferAfter b (stepInBefore w x (length b) .answer)
+  pub venue : venueOf w′ ≡ stepInBefore w x (length b) .venue
 
 abbrev pub CallsAsBefore : Type 0
 CallsAsBefore =
-    (w : List ℕ) (e : Entry) (b : List ℕ) (answer : Outcome ℕ) (w′ b′ : List ℕ) → Applied w (entry e) b answer w′ b′ → CallAsBefore w e b answer w′ b′
+    (w : List ℕ) (x : Event) (b : List ℕ) (answer : Outcome ℕ) (w′ b′ : List ℕ) → Applied w x b answer w′ b′ → CallAsBefore w x b answer w′ b′

@@ -23,9 +23,9 @@ use Rattle.engine.specs.rules.Layout.{venueOf}
 abbrev pub askedEntry : ℕ → ℕ → ℕ → Entry
 askedEntry mark price shares = record { id = 0; mark = mark; price = price; shares = shares; show = 0; life = 0; slide = 0 }
 
--- the order that it would be now, "with the restriction applied"; "a price of 0 means market as there"
+-- the order that it would be now, "with the restriction applied"; "a price of 0 means market as there"; No. 7: "The fill question has owner 0"
 unfoldable pub askedOrder : Market → ℕ → ℕ → ℕ → Order
-askedOrder m mark price shares = orderOf m 0 (askedEntry mark price shares)
+askedOrder m mark price shares = orderOf m 0 0 (askedEntry mark price shares)
 
 -- "tell whether an entry would fill in full now", with "the count of orders read"
 unfoldable pub fillUnless : Option ℕ → Venue → ℕ → ℕ → ℕ → Outcome FrontRead

@@ -7,7 +7,7 @@ use Rattle.prices.specs.Prices.{permitted}
 use Rattle.prices.specs.Restriction.{phaseAfterTape, phaseAfterDayEnd, restrictionOn}
 use Rattle.engine.specs.declared.Market.{Market}
 use Rattle.engine.specs.declared.Event.{Event}
-use Rattle.engine.specs.declared.Event.the-variants.{Entry as entry, Cancel as cancel, Bid as bid, Tape as tape, DayEnd as dayEnd}
+use Rattle.engine.specs.declared.Event.the-variants.{Entry as entry, Cancel as cancel, Bid as bid, Tape as tape, DayEnd as dayEnd, OwnedEntry as ownedEntry}
 
 -- "Fresh: phase 0, bid 0"; No. 2: "Opening takes a step"
 abbrev pub openingMarket : ℕ → ℕ → Market
@@ -20,6 +20,7 @@ marketAfter (cancel i) m = m
 marketAfter (bid b) m = record { close = m.close; phase = m.phase; bid = b; step = m.step }
 marketAfter (tape p) m = record { close = m.close; phase = phaseAfterTape (m .close) (m .phase) p; bid = m.bid; step = m.step }
 marketAfter (dayEnd c) m = record { close = c; phase = phaseAfterDayEnd (m .phase); bid = 0; step = m.step }
+marketAfter (ownedEntry e k) m = m
 
 -- ""Restricted" means mark 2 while the phase is 1 or 2"
 unfoldable pub restricted : Market → ℕ → Bool

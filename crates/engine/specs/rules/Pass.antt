@@ -66,6 +66,7 @@ atNewPrice price stamp used o =
       used = used;
       clear = true;
       market = o.market;
+      owner = o.owner;
     }
 
 -- what an event, or a part of it, has reported, and the book and the last stamp after it

@@ -1,4 +1,4 @@
--- The refusals of an event and of a question, in their order: document 01, "Operations", and document 02, No. 1 to No. 4. Assumes nothing.
+-- The refusals of an event and of a question, in their order: document 01, "Operations", and document 02, No. 1 to No. 4 and No. 7. Assumes nothing.
 use Prim.Native.Nat.{ℕ}
 use mathlib.Core.Bool.{Bool, true, false, _||_}
 use mathlib.Core.Option.{Option, none, some}
@@ -9,10 +9,10 @@ use Rattle.book.specs.declared.Order.{Order}
 use Rattle.book.specs.rules.Orders.{find}
 use Rattle.engine.specs.declared.Entry.{Entry}
 use Rattle.engine.specs.declared.Event.{Event}
-use Rattle.engine.specs.declared.Event.the-variants.{Entry as entry, Cancel as cancel, Bid as bid, Tape as tape, DayEnd as dayEnd}
+use Rattle.engine.specs.declared.Event.the-variants.{Entry as entry, Cancel as cancel, Bid as bid, Tape as tape, DayEnd as dayEnd, OwnedEntry as ownedEntry}
 use Rattle.engine.specs.rules.Working.{isMarket}
 use Rattle.engine.specs.rules.Venue.{Venue}
-use Rattle.book.specs.rules.Sound.{mostShares}
+use Rattle.book.specs.rules.Sound.{mostShares, mostOwner}
 use Rattle.engine.specs.rules.Sound.{mostOrders, mostEvents, sound}
 
 -- refusal n unless the test holds, else what comes later in the order
@@ -25,7 +25,7 @@ unfoldable pub firstOf : Option ℕ → Option ℕ → Option ℕ
 firstOf (some n) later = some n
 firstOf none later = later
 
--- the refusals of an entry, in three parts
+-- the refusals of an entry, in parts
 
 -- its terms: "3 price not legal; 4 shares"; No. 1: "refusal 3 no longer meets an entry price of 0"; No. 2: prices are
 -- legal at a step
@@ -53,6 +53,13 @@ refusalOfOtherCodes e =
 unfoldable pub refusalOfCodes : Entry → Option ℕ
 refusalOfCodes e = refusalOfMark (e .mark) (refusalOfOtherCodes e)
 
+-- its owner, No. 7: "an entry with an owner, 1 to 65,535"; "an owner outside its range is 21, after the slide codes"
+unfoldable pub refusalOfOwner : ℕ → Option ℕ
+refusalOfOwner k =
+    refuseUnless (leb 1 k) 21
+    (refuseUnless (leb k mostOwner) 21
+    none)
+
 -- its place: "6 id not above the last accepted id (0 never is); 7 if 256 orders rest"
 unfoldable pub refusalOfPlace : Venue → ℕ → Option ℕ
 refusalOfPlace v id =
@@ -64,6 +71,14 @@ refusalOfPlace v id =
 unfoldable pub refusalOfAsked : ℕ → ℕ → ℕ → ℕ → Option ℕ
 refusalOfAsked step mark price shares = firstOf (refusalOfTerms step price shares) (refusalOfMark mark none)
 
+-- an entry's, its parts in their order; kind 1 has no owner to refuse
+unfoldable pub refusalOfEntry : Venue → Entry → Option ℕ → Option ℕ
+refusalOfEntry v e ofOwner =
+    firstOf (refusalOfTerms (v.market.step) (e .price) (e .shares))
+    (firstOf (refusalOfCodes e)
+    (firstOf ofOwner
+    (refusalOfPlace v (e .id))))
+
 -- an order was found
 unfoldable pub rests : Option Order → Bool
 rests none = false
@@ -72,11 +87,12 @@ rests (some o) = true
 -- the refusals of each kind of event: an entry's, a cancel's "8 if the id doesn't rest", "3 for a bid that isn't a bid, or a tape price or
 -- close that isn't legal", all at the venue's step (No. 2)
 unfoldable pub refusalOfKind : Venue → Event → Option ℕ
-refusalOfKind v (entry e) = firstOf (refusalOfTerms (v.market.step) (e .price) (e .shares)) (firstOf (refusalOfCodes e) (refusalOfPlace v (e .id)))
+refusalOfKind v (entry e) = refusalOfEntry v e none
 refusalOfKind v (cancel i) = refuseUnless (rests (find i (v .orders))) 8 none
 refusalOfKind v (bid b) = refuseUnless (isBid (v.market.step) b) 3 none
 refusalOfKind v (tape p) = refuseUnless (legal (v.market.step) p) 3 none
 refusalOfKind v (dayEnd c) = refuseUnless (legal (v.market.step) c) 3 none
+refusalOfKind v (ownedEntry e k) = refusalOfEntry v e (refusalOfOwner k)
 
 -- "16 if the venue record breaks a condition .. Then 1 if the buffer has under 16,384 bytes; 2 if 16,777,215 events were accepted", then
 -- the kind's own; n is the length of the lent report buffer

@@ -1,4 +1,4 @@
--- Reports: document 01, "Reports, in the order of happening". Assumes nothing.
+-- Reports: document 01, "Reports, in the order of happening", and document 02, No. 7. Assumes nothing.
 use Prim.Native.Nat.{ℕ}
 use Rattle.book.specs.rules.Matching.{Execution}
 
@@ -28,3 +28,7 @@ optOut = 3
 
 abbrev pub endOfDay : ℕ
 endOfDay = 4
+
+-- No. 7: "cancelled (cause 5)", an order that one of its owner's own would have traded with
+abbrev pub sameFirm : ℕ
+sameFirm = 5

@@ -1,5 +1,5 @@
 -- The venue, and what an accepted event does to it: document 01, "Orders", "Reports" and "Operations", and document 02,
--- No. 1, No. 2 and No. 6. Assumes nothing.
+-- No. 1, No. 2, No. 6 and No. 7. Assumes nothing.
 use Prim.Native.Nat.{ℕ, _+_}
 use mathlib.Core.List.{List, [], _∷_, _++_, map}
 use lib.Dec.{eqb}
@@ -11,7 +11,7 @@ use Rattle.book.specs.rules.Orders.{restingShares, without}
 use Rattle.engine.specs.declared.Market.{Market}
 use Rattle.engine.specs.declared.Entry.{Entry}
 use Rattle.engine.specs.declared.Event.{Event}
-use Rattle.engine.specs.declared.Event.the-variants.{Entry as entry, Cancel as cancel, Bid as bid, Tape as tape, DayEnd as dayEnd}
+use Rattle.engine.specs.declared.Event.the-variants.{Entry as entry, Cancel as cancel, Bid as bid, Tape as tape, DayEnd as dayEnd, OwnedEntry as ownedEntry}
 use Rattle.engine.specs.rules.Market.{openingMarket, marketAfter}
 use Rattle.engine.specs.rules.Reports.{Report, accepted, cancelled, restrictionStarts, dayEnded, askedFor, endOfDay}
 use Rattle.engine.specs.rules.Working.{Worked, orderOf, work}
@@ -42,9 +42,9 @@ entering o os =
     let w : Worked = work o os in
     record { reports = accepted (o .id) (o .stamp) (o .price) ∷ w.reports; orders = w.orders; stamp = o.stamp }
 
--- "An entry takes a stamp": "A stamp is the next whole number"
-unfoldable pub effectOfEntry : Market → Venue → Entry → Effect
-effectOfEntry m v e = entering (orderOf m (v .lastStamp + 1) e) (v .orders)
+-- "An entry takes a stamp": "A stamp is the next whole number"; k is its owner
+unfoldable pub effectOfEntry : Market → Venue → ℕ → Entry → Effect
+effectOfEntry m v k e = entering (orderOf m (v .lastStamp + 1) k e) (v .orders)
 
 unfoldable pub effectOfCancel : Venue → ℕ → Effect
 effectOfCancel v i =
@@ -72,12 +72,14 @@ unfoldable pub effectOfDayEnd : Market → Venue → Effect
 effectOfDayEnd m v =
     record { reports = map cancelledAtEnd (v .orders) ++ dayEnded (m .phase) ∷ []; orders = []; stamp = v.lastStamp }
 
+-- No. 7: "Event kind 6 is an entry with an owner .. kind 1 has owner 0"
 unfoldable pub effectOf : Market → Venue → Event → Effect
-effectOf m v (entry e) = effectOfEntry m v e
+effectOf m v (entry e) = effectOfEntry m v 0 e
 effectOf m v (cancel i) = effectOfCancel v i
 effectOf m v (bid b) = thePass m v
 effectOf m v (tape p) = effectOfTape m v
 effectOf m v (dayEnd c) = effectOfDayEnd m v
+effectOf m v (ownedEntry e k) = effectOfEntry m v k e
 
 -- the last accepted id after the event
 abbrev pub lastIdAfter : Venue → Event → ℕ
@@ -86,6 +88,7 @@ lastIdAfter v (cancel i) = v.lastId
 lastIdAfter v (bid b) = v.lastId
 lastIdAfter v (tape p) = v.lastId
 lastIdAfter v (dayEnd c) = v.lastId
+lastIdAfter v (ownedEntry e k) = e.id
 
 -- the venue after an accepted event with this effect
 abbrev pub venueAfter : Venue → Event → Effect → Venue

@@ -1,4 +1,4 @@
--- An entry and what becomes of it: document 01, "Orders", and document 02, No. 1. Assumes nothing.
+-- An entry and what becomes of it: document 01, "Orders", and document 02, No. 1 and No. 7. Assumes nothing.
 use Prim.Native.Nat.{ℕ, max}
 use mathlib.Core.Bool.{Bool, false, not, _&&_}
 use mathlib.Core.List.{List, [], _∷_, _++_, map}
@@ -7,13 +7,13 @@ use Rattle.numbers.specs.Tests.{pick}
 use Rattle.prices.specs.Prices.{highest}
 use Rattle.book.specs.declared.Order.{Order}
 use Rattle.book.specs.rules.Orders.{insert}
-use Rattle.book.specs.rules.Matching.{Matched, matching}
+use Rattle.book.specs.rules.Matching.{Happening, traded, withdrawn, Matched, matching}
 use Rattle.engine.specs.declared.Market.{Market}
 use Rattle.engine.specs.declared.Entry.{Entry}
 use Rattle.engine.specs.declared.Remainder.{Remainder}
 use Rattle.engine.specs.declared.Remainder.the-variants.{Filled, Cancelled, Rests}
 use Rattle.engine.specs.rules.Market.{restricted, permittedNow}
-use Rattle.engine.specs.rules.Reports.{Report, executed, cancelled, immediateOrCancel, optOut}
+use Rattle.engine.specs.rules.Reports.{Report, executed, cancelled, immediateOrCancel, optOut, sameFirm}
 
 -- No. 1: "A price of 0 in an entry means market"
 abbrev pub isMarket : ℕ → Bool
@@ -35,10 +35,10 @@ lifeOf m mark price life = pick (isMarket price && not (followsBid m mark price)
 unfoldable pub workingPrice : Market → ℕ → ℕ → ℕ
 workingPrice m mark price = pick (restricted m mark) (max (limitOf mark price) (permittedNow m)) (limitOf mark price)
 
--- the order of an entry, with its stamp: "adjusted if that is above the limit"; ""Clear" says that the bid was 0 or below the
+-- the order of an entry, with its stamp and its owner (No. 7): "adjusted if that is above the limit"; ""Clear" says that the bid was 0 or below the
 -- present price when that price was given" (a price is above 0)
-unfoldable pub orderOf : Market → ℕ → Entry → Order
-orderOf m stamp e =
+unfoldable pub orderOf : Market → ℕ → ℕ → Entry → Order
+orderOf m stamp owner e =
     let limit : ℕ = limitOf (e .mark) (e .price) in
     let p : ℕ = workingPrice m (e .mark) (e .price) in
     record {
@@ -56,6 +56,7 @@ orderOf m stamp e =
       used = false;
       clear = ltb (m .bid) p;
       market = followsBid m (e .mark) (e .price);
+      owner = owner;
     }
 
 -- "A remainder is cancelled if immediate or cancel (cause 2), else if adjusted and opt-out (cause 3); otherwise it rests"
@@ -76,9 +77,14 @@ afterRemainder Filled w os = record { reports = []; orders = os }
 afterRemainder (Cancelled cause) w os = record { reports = cancelled (w .id) (w .shares) cause ∷ []; orders = os }
 afterRemainder Rests w os = record { reports = []; orders = insert w os }
 
+-- the report of what happens in a meeting: an execution; No. 7: "the resting one is cancelled (cause 5)"
+abbrev pub happened : Happening → Report
+happened (traded x) = executed x
+happened (withdrawn i q) = cancelled i q sameFirm
+
 -- an order works: "It then matches", and its remainder is cancelled or rests
 unfoldable pub work : Order → List Order → Worked
 work w os =
     let m : Matched = matching w os in
     let r : Worked = afterRemainder (remainder (m .left)) (m .left) (m .orders) in
-    record { reports = map executed (m .executions) ++ r.reports; orders = r.orders }
+    record { reports = map happened (m .happenings) ++ r.reports; orders = r.orders }

@@ -1,5 +1,5 @@
 -- What the engine's inner steps need and leave: an order that may enter, a meeting, matching, the pass and its ids. Assumes nothing.
-use Prim.Native.Nat.{ℕ, _<_}
+use Prim.Native.Nat.{ℕ, zero, suc, _<_}
 use mathlib.Core.Path.{_≡_}
 use mathlib.Core.List.{List, [], _∷_, map}
 use lib.ListN.{length, getD}
@@ -11,16 +11,24 @@ use Rattle.book.specs.rules.Orders.{find}
 use Rattle.book.specs.rules.Matching.{Meeting, Matched, matching}
 use Rattle.book.specs.rules.Words.{emptyOrder, resting}
 use Rattle.engine.specs.declared.Market.{Market}
+use Rattle.engine.specs.declared.Entry.{Entry}
+use Rattle.engine.specs.declared.Event.{Event}
+use Rattle.engine.specs.declared.Event.the-variants.{Entry as entry, OwnedEntry as ownedEntry}
 use Rattle.engine.specs.declared.Move.{Move}
 use Rattle.engine.specs.declared.Move.the-variants.{Stay}
 use Rattle.engine.specs.rules.Market.{restricted}
-use Rattle.engine.specs.rules.Reports.{Report, executed, repriced}
-use Rattle.engine.specs.rules.Working.{Worked, remainder, afterRemainder, work}
+use Rattle.engine.specs.rules.Reports.{Report, repriced}
+use Rattle.engine.specs.rules.Working.{Worked, remainder, afterRemainder, happened, work}
 use Rattle.engine.specs.rules.Pass.{Effect, moveOf, passOne}
 use Rattle.engine.specs.rules.Venue.{Venue, thePass}
 use Rattle.engine.specs.rules.Records.{reportsBytes}
 use Rattle.engine.specs.steps.Memory.{Ordered, Becomes, Does, withOrders, finished}
 use Rattle.engine.specs.rules.Layout.{venueOf}
+
+-- the event of an entry and its owner, 0 for kind 1
+abbrev pub entryBy : Entry → ℕ → Event
+entryBy e zero = entry e
+entryBy e (suc k) = ownedEntry e (suc k)
 
 -- the order o may enter the book of the words w: no order rests under its id, which is above 0, and fewer than 256 rest
 pub record MayEnter (o : Order) (w : List ℕ) : Type 0 where
@@ -31,16 +39,16 @@ pub record MayEnter (o : Order) (w : List ℕ) : Type 0 where
 
 -- one meeting, done, and what is left of the working order
 pub record Meets (w w′ b b′ : List ℕ) (at : ℕ) (x : Meeting) (left : Order) (end : ℕ) : Type 0 where
-  pub does : Does w w′ b b′ at (x .orders) (executed (x .execution) ∷ []) end
+  pub does : Does w w′ b b′ at (x .orders) (happened (x .happening) ∷ []) end
   pub rests : left ≡ x .left
 
--- the reports of a working order's executions
-abbrev pub executionReports : Matched → List Report
-executionReports m = map executed (m .executions)
+-- the reports of what happens in matching
+abbrev pub matchingReports : Matched → List Report
+matchingReports m = map happened (m .happenings)
 
 -- the working order o has matched; what is left of it may enter
 pub record Matches (w w′ b b′ : List ℕ) (at : ℕ) (o left : Order) (end : ℕ) : Type 0 where
-  pub does : Does w w′ b b′ at (matching o (resting w) .orders) (executionReports (matching o (resting w))) end
+  pub does : Does w w′ b b′ at (matching o (resting w) .orders) (matchingReports (matching o (resting w))) end
   pub rests : left ≡ matching o (resting w) .left
   pub enters : MayEnter left w′
 
