@@ -13,21 +13,23 @@ use Rattle.numbers.proofs.TestLaws.{by-test, all-map}
 use Rattle.numbers.proofs.ByteLaws.{kind-size}
 use Rattle.book.specs.declared.Order.{Order}
 use Rattle.book.specs.rules.Orders.{find, without}
-use Rattle.book.specs.rules.Matching.{Execution, meeting, Matched, matching}
+use Rattle.book.specs.rules.Sound.{mostOwner}
+use Rattle.book.specs.rules.Matching.{Happening, traded, withdrawn, Meeting, trading, withdrawing, meeting, Matched, matching}
 use Rattle.book.proofs.definitions.OrderLaws.{idOf, Distinct, taken-length, mem-taken, insert-taken, Found, find-found}
 use Rattle.book.proofs.definitions.CounterpartyLaws.{Reached}
-use Rattle.book.proofs.definitions.MeetingLaws.{meeting-known}
+use Rattle.book.proofs.definitions.MeetingLaws.{meeting-by, trading-known, withdrawing-known}
 use Rattle.book.proofs.definitions.MatchingLaws.{afterTrade-length, afterTrade-shorter, matching-keeps}
 use Rattle.engine.specs.declared.Market.{Market}
+use Rattle.engine.specs.declared.Entry.{Entry}
 use Rattle.engine.specs.declared.Event.{Event}
-use Rattle.engine.specs.declared.Event.the-variants.{Entry as entry, Cancel as cancel, Bid as bid, Tape as tape, DayEnd as dayEnd}
+use Rattle.engine.specs.declared.Event.the-variants.{Entry as entry, Cancel as cancel, Bid as bid, Tape as tape, DayEnd as dayEnd, OwnedEntry as ownedEntry}
 use Rattle.engine.specs.declared.Remainder.{Remainder}
 use Rattle.engine.specs.declared.Remainder.the-variants.{Filled, Cancelled, Rests}
 use Rattle.engine.specs.declared.Move.{Move}
 use Rattle.engine.specs.declared.Move.the-variants.{Stay, Cancel, Reprice}
 use Rattle.engine.specs.rules.Market.{marketAfter}
 use Rattle.engine.specs.rules.Reports.{Report, accepted, executed, cancelled, repriced, restrictionStarts, dayEnded}
-use Rattle.engine.specs.rules.Working.{orderOf, remainder, afterRemainder, work}
+use Rattle.engine.specs.rules.Working.{orderOf, remainder, afterRemainder, happened, work}
 use Rattle.engine.specs.rules.Pass.{Effect, atNewPrice, afterMove, passOne, passOver}
 use Rattle.engine.specs.rules.Venue.{Venue, entering, effectOfEntry, effectOfCancel, thePass, restrictionReport, cancelledAtEnd, effectOfDayEnd, effectOf, lastIdAfter}
 use Rattle.engine.specs.rules.Sound.{mostOrders}
@@ -36,7 +38,7 @@ use Rattle.engine.specs.rules.Run.{stepUnless, step}
 use Rattle.engine.specs.rules.Records.{reportBytes, reportsBytes}
 use Rattle.engine.specs.claims.RoundTrips.{Word, ReportWords}
 use Rattle.engine.specs.claims.Reached.{ReportsFit}
-use Rattle.engine.proofs.refinement.RefusalLaws.{Allowed, NotRefused, Unless, refusal-known}
+use Rattle.engine.proofs.refinement.RefusalLaws.{EntryAllowed, Allowed, NotRefused, Unless, refusal-known}
 use Rattle.engine.proofs.demand3.MarketLaws.{HasPermitted}
 use Rattle.engine.proofs.demand3.SoundLaws.{SoundBook, SoundWork, book-distinct, book-order, RemainderOf, remainder-known, meeting-sound, MoveSound, moveOf-sound, atNewPrice-sound, passOne-sound, SoundVenue, sound-venue, market-permits, orderOf-sound}
 use Rattle.engine.proofs.bytes.ReportWordLaws.{reports-words}
@@ -76,37 +78,42 @@ most-append : (rs qs : List Report) → mostOf (rs ++ qs) ≡ mostOf rs + mostOf
 most-append [] qs = omega arith
 most-append (r ∷ rs) qs = omega (arith, most-append rs qs)
 
-most-executed : (xs : List Execution) → mostOf (map executed xs) ≡ 21 * length xs
-most-executed [] = refl
-most-executed (x ∷ xs) = omega (arith, most-executed xs)
+most-happened : (xs : List Happening) → mostOf (map happened xs) ≤ 21 * length xs
+most-happened [] = omega arith
+most-happened (traded x ∷ xs) = omega (arith, most-happened xs)
+most-happened (withdrawn i q ∷ xs) = omega (arith, most-happened xs)
 
--- matching: each execution takes an order out of the book, or the last shares of the working order
+-- matching: each meeting takes an order out of the book, or the last shares of the working order
 
 -- 1 while shares remain
 abbrev unfilled : Order → ℕ
 unfilled o = min 1 (o .shares)
 
-abbrev oneMore : ℕ → Execution → ℕ
+abbrev oneMore : ℕ → Happening → ℕ
 oneMore a x = a + 1
 
-oneMore-all : (a : ℕ) (xs : List Execution) → foldl oneMore a xs ≡ a + length xs
+oneMore-all : (a : ℕ) (xs : List Happening) → foldl oneMore a xs ≡ a + length xs
 oneMore-all a [] = omega arith
 oneMore-all a (x ∷ xs) = omega (arith, oneMore-all (a + 1) xs)
 
 module _ {g n s : ℕ} where
-  meeting-count : (w o : Order) (os : List Order) → Reached w os (some o) → SoundWork g n s w os → let x = meeting w o os in 1 + length (x .orders) + unfilled (x .left) ≤ length os + unfilled w
-  meeting-count w o os r f =
+  trading-count : (w o : Order) (os : List Order) → Reached w os (some o) → SoundWork g n s w os → let x = trading w o os in 1 + length (x .orders) + unfilled (x .left) ≤ length os + unfilled w
+  trading-count w o os r f =
       let q : ℕ = min (w .shares) (o .shares) in
       let d : Distinct os = book-distinct (f .book) in
-      rw (meeting-known w o os) elim (decLe (o .shares) (w .shares)) [
+      rw (trading-known w o os) elim (decLe (o .shares) (w .shares)) [
         | yes l ↦ omega (arith, r .2, afterTrade-shorter q (r .0) d (omega arith))
         | no l ↦ omega (arith, r .2, afterTrade-length q (r .0) d)
       ]
 
-  matching-count : (w : Order) (os : List Order) → SoundWork g n s w os → let m : Matched = matching w os in length (m .executions) + length (m .orders) + unfilled (m .left) ≤ length os + unfilled w
+  meeting-count : (w o : Order) (os : List Order) → Reached w os (some o) → SoundWork g n s w os → let x = meeting w o os in 1 + length (x .orders) + unfilled (x .left) ≤ length os + unfilled w
+  meeting-count w o os r f =
+      meeting-by (λ (x : Meeting). 1 + length (x .orders) + unfilled (x .left) ≤ length os + unfilled w) w o os (rw (withdrawing-known w o os) (omega (arith, taken-length (mem-taken (r .0) (book-distinct (f .book)))))) (trading-count w o os r f)
+
+  matching-count : (w : Order) (os : List Order) → SoundWork g n s w os → let m : Matched = matching w os in length (m .happenings) + length (m .orders) + unfilled (m .left) ≤ length os + unfilled w
   matching-count w os f =
       let r = matching-keeps oneMore Kept (λ x o l a h k. (meeting-sound (h .0) (k .0), omega (arith, k .1, meeting-count x o l h (k .0)))) w os 0 (f, omega arith) in
-      omega (arith, r .1, oneMore-all 0 (matching w os .executions))
+      omega (arith, r .1, oneMore-all 0 (matching w os .happenings))
     where
       Kept : Order → List Order → ℕ → Type 0
       Kept x l a = SoundWork g n s x l × (a + length l + unfilled x ≤ length os + unfilled w)
@@ -125,7 +132,7 @@ work-most : {g n s : ℕ} (w : Order) (os : List Order) → SoundWork g n s w os
 unfolding work
 work-most w os g =
     let m : Matched = matching w os in
-    omega (arith, matching-count w os g, most-executed (m .executions), afterRemainder-most (remainder (m .left)) (m .left) (m .orders) (remainder-known (m .left)), most-append (map executed (m .executions)) (afterRemainder (remainder (m .left)) (m .left) (m .orders) .reports))
+    omega (arith, matching-count w os g, most-happened (m .happenings), afterRemainder-most (remainder (m .left)) (m .left) (m .orders) (remainder-known (m .left)), most-append (map happened (m .happenings)) (afterRemainder (remainder (m .left)) (m .left) (m .orders) .reports))
 
 -- the pass
 
@@ -163,10 +170,14 @@ module _ (v : Venue) (g : SoundVenue v) where
   thePass-most m t b =
       omega (arith, g .book .few, length-map (v .orders) idOf, passOver-most m t (v .lastId) (map idOf (v .orders)) (v .orders) (v .lastStamp) b)
 
+  effectOfEntry-most : (e : Entry) (k : ℕ) → EntryAllowed v e → k ≤ mostOwner → mostOf ((effectOfEntry (v .market) v k e) .reports) ≤ leastBuffer
+  unfolding entering effectOfEntry orderOf
+  effectOfEntry-most e k f o =
+      omega (arith, work-most (orderOf (v .market) (v .lastStamp + 1) k e) (v .orders) (orderOf-sound v e k f o g), g .book .few)
+
   effectOf-most : (e : Event) → Allowed v e → mostOf ((effectOf (marketAfter e (v .market)) v e) .reports) ≤ leastBuffer
-  unfolding effectOf entering effectOfEntry orderOf effectOfCancel effectOfDayEnd restrictionReport
-  effectOf-most (entry e) f =
-      omega (arith, work-most (orderOf (v .market) (v .lastStamp + 1) e) (v .orders) (orderOf-sound v e f g), g .book .few)
+  unfolding effectOf effectOfCancel effectOfDayEnd restrictionReport
+  effectOf-most (entry e) f = effectOfEntry-most e 0 f (omega arith)
   effectOf-most (cancel j) f = omega arith
   effectOf-most (bid b) f = omega (arith, thePass-most (marketAfter (bid b) (v .market)) (g .market .step, f) (g .book))
   effectOf-most (tape p) f =
@@ -175,6 +186,7 @@ module _ (v : Venue) (g : SoundVenue v) where
       by-test (λ (rs : List Report). mostOf (rs ++ thePass m v .reports) ≤ leastBuffer) _ (λ t. omega arith) (λ t. omega arith)
   effectOf-most (dayEnd c) f =
       omega (arith, most-append (map cancelledAtEnd (v .orders)) (dayEnded (marketAfter (dayEnd c) (v .market) .phase) ∷ []), allCancelled-most (v .orders), g .book .few)
+  effectOf-most (ownedEntry e k) f = effectOfEntry-most e k (f .0) (f .1 .most)
 
 -- the reports of an event that isn't refused
 pub reports-room : (v : Venue) (e : Event) (n : ℕ) → NotRefused v e n → Word (lastIdAfter v e) → length (reportsBytes ((effectOf (marketAfter e (v .market)) v e) .reports)) ≤ leastBuffer

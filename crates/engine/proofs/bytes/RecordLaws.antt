@@ -16,7 +16,7 @@ use Rattle.numbers.proofs.ByteLaws.{bytes-last, length-positive}
 use Rattle.numbers.proofs.PlaceLaws.{stands-none, stands-then, stands-front, stands-behind}
 use Rattle.numbers.proofs.ReadLaws.{read-there, NumberStands, read-unique}
 use Rattle.engine.specs.declared.Event.{Event}
-use Rattle.engine.specs.declared.Event.the-variants.{Entry as entry, Cancel as cancel, Bid as bid, Tape as tape, DayEnd as dayEnd}
+use Rattle.engine.specs.declared.Event.the-variants.{Entry as entry, Cancel as cancel, Bid as bid, Tape as tape, DayEnd as dayEnd, OwnedEntry as ownedEntry}
 use Rattle.engine.specs.rules.Reports.{Report, accepted, executed, cancelled, repriced, restrictionStarts, dayEnded}
 use Rattle.engine.specs.rules.Records.{recordNumbers, reportNumbers, recordBytes, reportBytes, reportsBytes, highestField, byField, onField, fieldsAt, Form, onKind, byCount, byKind, formAt, recordFields, reportFields, eventOf, reportOf, readAs, recordAt, reportAt, onReport, byReport, reportsFrom, reportsUpTo}
 use Rattle.engine.specs.claims.RoundTrips.{Word, ReportWords, StandsAs, ReadsOnly, RecordsReadBack, RecordsReadOnly, ReportsReadBack, ReportsReadOnly, AllReportsReadBack, AllReportsReadOnly}
@@ -158,10 +158,12 @@ record-numbers (suc (suc zero)) xs e = (omega arith, ap (λ l. 2 ∷ l) (element
 record-numbers (suc (suc (suc zero))) xs e = (omega arith, ap (λ l. 3 ∷ l) (elements {n = 1} xs e))
 record-numbers (suc (suc (suc (suc zero)))) xs e = (omega arith, ap (λ l. 4 ∷ l) (elements {n = 1} xs e))
 record-numbers (suc (suc (suc (suc (suc zero))))) xs e = (omega arith, ap (λ l. 5 ∷ l) (elements {n = 1} xs e))
-record-numbers (suc (suc (suc (suc (suc (suc k)))))) xs e = absurd (no-count (above (suc (suc (suc (suc (suc (suc k)))))) (omega arith) e))
+record-numbers (suc (suc (suc (suc (suc (suc zero)))))) xs e = (omega arith, ap (λ l. 6 ∷ l) (elements {n = 8} xs e))
+record-numbers (suc (suc (suc (suc (suc (suc (suc k))))))) xs e = absurd (no-count (above (suc (suc (suc (suc (suc (suc (suc k))))))) (omega arith) e))
   where
-    above : (m : ℕ) → 5 < m → recordFields m ≡ some (length xs) → none ≡ some (length xs)
-    above m h e = simp (ne-eqb m 1 (λ q. omega arith), le-leb 2 m (omega arith), lt-leb m 5 h) at e
+    above : (m : ℕ) → 6 < m → recordFields m ≡ some (length xs) → none ≡ some (length xs)
+    above m h e =
+        simp (ne-eqb m 1 (λ q. omega arith), ne-eqb m 6 (λ q. omega arith), le-leb 2 m (omega arith), lt-leb m 5 (omega arith)) at e
 
 pub record-read-back : RecordsReadBack
 unfolding recordBytes recordAt eventOf recordFields pick
@@ -173,6 +175,7 @@ record-read-back bytes at r s = go (r .value) (s .words) (s .stands)
     go (bid b) h t = rw (form-there recordFields 3 _ (omega arith) refl (h .1) t)
     go (tape p) h t = rw (form-there recordFields 4 _ (omega arith) refl (h .1) t)
     go (dayEnd c) h t = rw (form-there recordFields 5 _ (omega arith) refl (h .1) t)
+    go (ownedEntry e k) h t = rw (form-there recordFields 6 _ (omega arith) refl (h .1) t)
 
 pub record-unique : RecordsReadOnly
 unfolding recordBytes recordAt
@@ -224,6 +227,7 @@ record-positive (cancel i) = form-positive 2 _
 record-positive (bid b) = form-positive 3 _
 record-positive (tape p) = form-positive 4 _
 record-positive (dayEnd c) = form-positive 5 _
+record-positive (ownedEntry e k) = form-positive 6 _
 
 -- so it begins before the end of the bytes
 pub read-inside : (bytes : List ℕ) (at : ℕ) (r : Read Event) → All IsByte bytes → recordAt bytes at ≡ gives r → at < length bytes

@@ -12,26 +12,28 @@ use Rattle.prices.specs.Prices.{legal}
 use Rattle.prices.proofs.PriceLaws.{legal-out}
 use Rattle.book.specs.declared.Order.{Order}
 use Rattle.book.specs.rules.Orders.{find, restingShares, without}
-use Rattle.book.specs.rules.Matching.{Execution, meeting, Matched, matching}
+use Rattle.book.specs.rules.Sound.{mostOwner}
+use Rattle.book.specs.rules.Matching.{Execution, Happening, Meeting, trading, withdrawing, meeting, Matched, matching}
 use Rattle.book.proofs.definitions.OrderLaws.{idOf, Found, find-found, shares-found}
-use Rattle.book.proofs.definitions.MeetingLaws.{execution-by, meeting-known}
+use Rattle.book.proofs.definitions.MeetingLaws.{execution-by, meeting-by, trading-known, withdrawing-known}
 use Rattle.book.proofs.definitions.MatchingLaws.{matching-keeps}
 use Rattle.engine.specs.declared.Market.{Market}
+use Rattle.engine.specs.declared.Entry.{Entry}
 use Rattle.engine.specs.declared.Event.{Event}
-use Rattle.engine.specs.declared.Event.the-variants.{Entry as entry, Cancel as cancel, Bid as bid, Tape as tape, DayEnd as dayEnd}
+use Rattle.engine.specs.declared.Event.the-variants.{Entry as entry, Cancel as cancel, Bid as bid, Tape as tape, DayEnd as dayEnd, OwnedEntry as ownedEntry}
 use Rattle.engine.specs.declared.Remainder.{Remainder}
 use Rattle.engine.specs.declared.Remainder.the-variants.{Filled, Cancelled, Rests}
 use Rattle.engine.specs.declared.Move.{Move}
 use Rattle.engine.specs.declared.Move.the-variants.{Stay, Cancel, Reprice}
 use Rattle.engine.specs.rules.Market.{marketAfter}
-use Rattle.engine.specs.rules.Reports.{Report, executed, cancelled, optOut, endOfDay}
-use Rattle.engine.specs.rules.Working.{orderOf, remainder, afterRemainder, work}
+use Rattle.engine.specs.rules.Reports.{Report, executed, cancelled, optOut, endOfDay, sameFirm}
+use Rattle.engine.specs.rules.Working.{orderOf, remainder, afterRemainder, happened, work}
 use Rattle.engine.specs.rules.Pass.{Effect, afterMove, passOne, passOver}
 use Rattle.engine.specs.rules.Venue.{Venue, entering, effectOfEntry, effectOfCancel, thePass, restrictionReport, cancelledAtEnd, effectOfDayEnd, effectOf, lastIdAfter}
 use Rattle.engine.specs.rules.Sound.{mostEvents}
 use Rattle.engine.specs.rules.Refusals.{rests}
 use Rattle.engine.specs.claims.RoundTrips.{Word, ReportWords}
-use Rattle.engine.proofs.refinement.RefusalLaws.{Allowed, NotRefused}
+use Rattle.engine.proofs.refinement.RefusalLaws.{EntryAllowed, Allowed, NotRefused}
 use Rattle.book.proofs.definitions.OrderConditionLaws.{MayWork}
 use Rattle.engine.proofs.demand3.MarketLaws.{HasPermitted}
 use Rattle.engine.proofs.demand3.SoundLaws.{SoundBook, SoundWork, book-distinct, book-order, RemainderOf, remainder-known, meeting-sound, MoveSound, moveOf-sound, atNewPrice-sound, passOne-sound, SoundVenue, sound-venue, market-permits, workingPrice-legal, orderOf-sound, marketAfter-sound}
@@ -47,24 +49,24 @@ OrderWords o = record { id : Word (o .id); price : Word (o .price); shares : Wor
 order-words : (g n s : ℕ) (o : Order) → Word n → MayWork g n s o → OrderWords o
 order-words g n s o i h = record { id = omega (arith, h .id); price = legal-word g (o .price) (h .price); shares = omega (arith, h .most) }
 
-cancelled-words : (o : Order) (cause : ℕ) → OrderWords o → cause ≤ 4 → ReportWords (cancelled (o .id) (o .shares) cause)
+cancelled-words : (o : Order) (cause : ℕ) → OrderWords o → cause ≤ 5 → ReportWords (cancelled (o .id) (o .shares) cause)
 cancelled-words o cause h l = (omega arith, (h .id, (h .shares, (omega arith, tt))))
 
 -- a working order
 
-abbrev onExecution : List Report → Execution → List Report
-onExecution rs x = executed x ∷ rs
+abbrev onHappening : List Report → Happening → List Report
+onHappening rs x = happened x ∷ rs
 
-onExecution-all : (rs : List Report) (xs : List Execution) → All ReportWords (foldl onExecution rs xs) → All ReportWords rs × All ReportWords (map executed xs)
-onExecution-all rs [] h = (h, tt)
-onExecution-all rs (x ∷ xs) h = let r = onExecution-all (onExecution rs x) xs h in (r .0 .1, (r .0 .0, r .1))
+onHappening-all : (rs : List Report) (xs : List Happening) → All ReportWords (foldl onHappening rs xs) → All ReportWords rs × All ReportWords (map happened xs)
+onHappening-all rs [] h = (h, tt)
+onHappening-all rs (x ∷ xs) h = let r = onHappening-all (onHappening rs x) xs h in (r .0 .1, (r .0 .0, r .1))
 
 module _ (g : ℕ) {n s : ℕ} (i : Word n) where
-  meeting-words : (w o : Order) (os : List Order) → List·Memᴰ o os → SoundWork g n s w os → ReportWords (executed ((meeting w o os) .execution))
-  meeting-words w o os m f =
+  trading-words : (w o : Order) (os : List Order) → List·Memᴰ o os → SoundWork g n s w os → ReportWords (happened ((trading w o os) .happening))
+  trading-words w o os m f =
       let h : OrderWords w = order-words g n s w i (f .works) in
       let k : OrderWords o = order-words g n s o i (book-order (f .book) m .works) in
-      rw (meeting-known w o os)
+      rw (trading-known w o os)
       (execution-by
       (λ (x : Execution). ReportWords (executed x))
       w
@@ -73,10 +75,14 @@ module _ (g : ℕ) {n s : ℕ} (i : Word n) where
       (λ t. (omega arith, (h .id, (k .id, (k .price, (omega (arith, h .shares), tt))))))
       (λ t. (omega arith, (k .id, (h .id, (k .price, (omega (arith, h .shares), tt)))))))
 
-  matching-words : (w : Order) (os : List Order) → SoundWork g n s w os → let m : Matched = matching w os in SoundWork g n s (m .left) (m .orders) × All ReportWords (map executed (m .executions))
+  meeting-words : (w o : Order) (os : List Order) → List·Memᴰ o os → SoundWork g n s w os → ReportWords (happened ((meeting w o os) .happening))
+  meeting-words w o os m f =
+      meeting-by (λ (x : Meeting). ReportWords (happened (x .happening))) w o os (rw (withdrawing-known w o os) (cancelled-words o sameFirm (order-words g n s o i (book-order (f .book) m .works)) (omega arith))) (trading-words w o os m f)
+
+  matching-words : (w : Order) (os : List Order) → SoundWork g n s w os → let m : Matched = matching w os in SoundWork g n s (m .left) (m .orders) × All ReportWords (map happened (m .happenings))
   matching-words w os f =
-      let r = matching-keeps onExecution Kept (λ x o l a h k. (meeting-sound (h .0) (k .0), (meeting-words x o l (h .0) (k .0), k .1))) w os [] (f, tt) in
-      (r .0, onExecution-all [] (matching w os .executions) (r .1) .1)
+      let r = matching-keeps onHappening Kept (λ x o l a h k. (meeting-sound (h .0) (k .0), (meeting-words x o l (h .0) (k .0), k .1))) w os [] (f, tt) in
+      (r .0, onHappening-all [] (matching w os .happenings) (r .1) .1)
     where
       Kept : Order → List Order → List Report → Type 0
       Kept x l rs = SoundWork g n s x l × All ReportWords rs
@@ -92,7 +98,7 @@ module _ (g : ℕ) {n s : ℕ} (i : Word n) where
   work-words w os f =
       let m : Matched = matching w os in
       let r = matching-words w os f in
-      all-append ReportWords (map executed (m .executions)) _ (r .1) (afterRemainder-words (remainder (m .left)) (m .left) (m .orders) (remainder-known (m .left)) (r .0 .works))
+      all-append ReportWords (map happened (m .happenings)) _ (r .1) (afterRemainder-words (remainder (m .left)) (m .left) (m .orders) (remainder-known (m .left)) (r .0 .works))
 
 -- the pass
 
@@ -137,10 +143,14 @@ module _ (v : Venue) (g : SoundVenue v) (l : v.acceptedEvents < mostEvents) (i :
       let e : restingShares k (v .orders) ≡ o.shares = subst (λ (j : ℕ). restingShares j (v .orders) ≡ o.shares) (f .1) (shares-found (f .0) (book-distinct (g .book))) in
       ((omega arith, (omega (arith, f .1, h .id), (omega (arith, h .shares), (omega arith, tt)))), tt)
 
+  effectOfEntry-words : (e : Entry) (k : ℕ) → EntryAllowed v e → k ≤ mostOwner → Word (e .id) → All ReportWords ((effectOfEntry (v .market) v k e) .reports)
+  unfolding entering effectOfEntry orderOf
+  effectOfEntry-words e k f o j =
+      ((omega arith, (j, (omega (arith, g .stamps), (legal-word (v.market.step) _ (workingPrice-legal (v .market) (e .mark) (e .price) (f .terms .limit) (market-permits (g .market))), tt)))), work-words (v.market.step) j _ (v .orders) (orderOf-sound v e k f o g))
+
   effectOf-words : (e : Event) → Allowed v e → Word (lastIdAfter v e) → All ReportWords ((effectOf (marketAfter e (v .market)) v e) .reports)
-  unfolding effectOf entering effectOfEntry orderOf effectOfDayEnd restrictionReport
-  effectOf-words (entry e) f k =
-      ((omega arith, (k, (omega (arith, g .stamps), (legal-word (v.market.step) _ (workingPrice-legal (v .market) (e .mark) (e .price) (f .terms .limit) (market-permits (g .market))), tt)))), work-words (v.market.step) k _ (v .orders) (orderOf-sound v e f g))
+  unfolding effectOf effectOfDayEnd restrictionReport
+  effectOf-words (entry e) f k = effectOfEntry-words e 0 f (omega arith) k
   effectOf-words (cancel j) f k = cancel-words j (find j (v .orders)) (find-found j (v .orders)) f
   effectOf-words (bid b) f k = thePass-words (marketAfter (bid b) (v .market)) (g .market .step, f) (g .book)
   effectOf-words (tape p) f k =
@@ -150,6 +160,7 @@ module _ (v : Venue) (g : SoundVenue v) (l : v.acceptedEvents < mostEvents) (i :
   effectOf-words (dayEnd c) f k =
       let h = all-map (λ o h. cancelled-words o endOfDay (order-words (v.market.step) (v .lastId) (v .lastStamp) o i (h .works)) (omega arith)) (v .orders) (g .book .orders) in
       all-append ReportWords (map cancelledAtEnd (v .orders)) _ (map-all ReportWords cancelledAtEnd (v .orders) h) ((omega arith, (omega (arith, marketAfter-sound v (dayEnd c) f (g .market) .phase), tt)), tt)
+  effectOf-words (ownedEntry e j) f k = effectOfEntry-words e j (f .0) (f .1 .most) k
 
 -- the last id doesn't fall
 lastId-word : (v : Venue) (e : Event) → Allowed v e → Word (lastIdAfter v e) → Word (v .lastId)
@@ -158,6 +169,7 @@ lastId-word v (cancel i) f k = k
 lastId-word v (bid b) f k = k
 lastId-word v (tape p) f k = k
 lastId-word v (dayEnd c) f k = k
+lastId-word v (ownedEntry e j) f k = omega (arith, f .0 .place .newId)
 
 -- the reports of an event that isn't refused
 pub reports-words : (v : Venue) (e : Event) (n : ℕ) → NotRefused v e n → Word (lastIdAfter v e) → All ReportWords ((effectOf (marketAfter e (v .market)) v e) .reports)

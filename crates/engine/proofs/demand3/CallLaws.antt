@@ -17,7 +17,7 @@ use Rattle.numbers.proofs.PlaceLaws.{overwrite-stands}
 use Rattle.prices.specs.Prices.{isStep, legal}
 use Rattle.book.specs.rules.Words.{isBook}
 use Rattle.engine.specs.declared.Event.{Event}
-use Rattle.engine.specs.declared.Event.the-variants.{Entry as entry, Cancel as cancel, Bid as bid, Tape as tape, DayEnd as dayEnd}
+use Rattle.engine.specs.declared.Event.the-variants.{Entry as entry, Cancel as cancel, Bid as bid, Tape as tape, DayEnd as dayEnd, OwnedEntry as ownedEntry}
 use Rattle.engine.specs.rules.Reports.{Report}
 use Rattle.engine.specs.rules.Venue.{Venue, opened, lastIdAfter}
 use Rattle.engine.specs.rules.Refusals.{leastBuffer, refusal}
@@ -70,6 +70,7 @@ event-lastId v (cancel k) i h = i
 event-lastId v (bid b) i h = i
 event-lastId v (tape p) i h = i
 event-lastId v (dayEnd c) i h = i
+event-lastId v (ownedEntry e k) i h = h .1 .0
 
 -- the buffer after a call reads back as its answer
 

@@ -17,7 +17,7 @@ use Rattle.book.proofs.definitions.OrderLaws.{shares-first, shares-empty, idOf,
 use Rattle.engine.specs.declared.Market.{Market}
 use Rattle.engine.specs.declared.Entry.{Entry}
 use Rattle.engine.specs.declared.Event.{Event}
-use Rattle.engine.specs.declared.Event.the-variants.{Entry as entry, Cancel as cancel, Bid as bid, Tape as tape, DayEnd as dayEnd}
+use Rattle.engine.specs.declared.Event.the-variants.{Entry as entry, Cancel as cancel, Bid as bid, Tape as tape, DayEnd as dayEnd, OwnedEntry as ownedEntry}
 use Rattle.engine.specs.rules.Market.{restricted, marketAfter}
 use Rattle.engine.specs.rules.Reports.{Report, cancelled, dayEnded, endOfDay}
 use Rattle.engine.specs.rules.Working.{workingPrice, orderOf}
@@ -59,27 +59,27 @@ module _ (n : ℕ) (os : List Order) (c : Tallies) (e : Entry) (new : n < e.id) 
       go (no z) =
           omega (arith, setAt-other (e .id) (e .shares) (c .entered) k z, setAt-other (e .id) 0 (c .executed) k z, setAt-other (e .id) 0 (c .cancelled) k z, h .shares k, ifSame-other k (e .id) (e .shares) z)
 
-  entered-agree : (m : Market) (s : ℕ) → TalliesAgree (e .id) (orderOf m s e ∷ os) (givePrice (m .bid) (e .id) (workingPrice m (e .mark) (e .price)) started)
+  entered-agree : (m : Market) (s k : ℕ) → TalliesAgree (e .id) (orderOf m s k e ∷ os) (givePrice (m .bid) (e .id) (workingPrice m (e .mark) (e .price)) started)
   unfolding orderOf
-  entered-agree m s =
+  entered-agree m s k =
       record {
-        known = (givePrice-own (e .id) (m .bid) started (orderOf m s e) (omega arith) (setAt-same (e .id) (e .mark) (c .mark)) (setAt-same (e .id) (e .show) (c .show)) (λ t. omega tests), givePrice-others (e .id) (m .bid) started (e .id) (workingPrice m (e .mark) (e .price)) os others started-others);
+        known = (givePrice-own (e .id) (m .bid) started (orderOf m s k e) (omega arith) (setAt-same (e .id) (e .mark) (c .mark)) (setAt-same (e .id) (e .show) (c .show)) (λ t. omega tests), givePrice-others (e .id) (m .bid) started (e .id) (workingPrice m (e .mark) (e .price)) os others started-others);
         distinct = (others, h .distinct);
-        shares = λ k. omega (arith, started-shares k, shares-first k (orderOf m s e) os);
+        shares = λ j. omega (arith, started-shares j, shares-first j (orderOf m s k e) os);
         executions = h.executions;
       }
 
-entry-keeps : (m : Market) → T (isStep (m .step)) → (v : Venue) (c : Tallies) (e : Entry) → v.lastId < e.id → BookAgrees (v .lastId) (v .orders) c → All (SafelyPriced m) (v .orders) → EffectAgrees m (e .id) (effectOfEntry m v e) (startTally e c)
+entry-keeps : (m : Market) → T (isStep (m .step)) → (v : Venue) (c : Tallies) (e : Entry) (k : ℕ) → v.lastId < e.id → BookAgrees (v .lastId) (v .orders) c → All (SafelyPriced m) (v .orders) → EffectAgrees m (e .id) (effectOfEntry m v k e) (startTally e c)
 unfolding entering effectOfEntry orderOf
-entry-keeps m is v c e new h s =
-    let i : WhileWorking m (e .id) (orderOf m (v .lastStamp + 1) e) (v .orders) (givePrice (m .bid) (e .id) (workingPrice m (e .mark) (e .price)) (startTally e c)) = record {
-      tallies = entered-agree (v .lastId) (v .orders) c e new (h .tallies) m (v .lastStamp + 1);
+entry-keeps m is v c e k new h s =
+    let i : WhileWorking m (e .id) (orderOf m (v .lastStamp + 1) k e) (v .orders) (givePrice (m .bid) (e .id) (workingPrice m (e .mark) (e .price)) (startTally e c)) = record {
+      tallies = entered-agree (v .lastId) (v .orders) c e new (h .tallies) m (v .lastStamp + 1) k;
       uncrossed = h.uncrossed;
       working = refl;
       above = workingPrice-above m is (e .mark) (e .price);
       safe = λ z. s;
     } in
-    (work-keeps m (e .id) _ (v .orders) _ i, work-all (SafelyPriced m) (λ z q k. k) _ (v .orders) (h .tallies .distinct) (λ r. inl (i .above r)) s)
+    (work-keeps m (e .id) _ (v .orders) _ i, work-all (SafelyPriced m) (λ z q x. x) _ (v .orders) (h .tallies .distinct) (λ r. inl (i .above r)) s)
 
 -- the other events
 
@@ -114,11 +114,12 @@ dayEnd-keeps m n v c h = (record { tallies = allCancelled-agree m n _ (v .orders
 
 effect-keeps : (v : Venue) → T (isStep (v.market.step)) → (c : Tallies) (e : Event) → Allowed v e → BookAgrees (v .lastId) (v .orders) c → All (SafelyPriced (v .market)) (v .orders) → let m : Market = marketAfter e (v .market) in EffectAgrees m (lastIdAfter v e) (effectOf m v e) (talliesAfter e c)
 unfolding effectOf
-effect-keeps v is c (entry e) a h s = entry-keeps (v .market) is v c e (a .place .newId) h s
+effect-keeps v is c (entry e) a h s = entry-keeps (v .market) is v c e 0 (a .place .newId) h s
 effect-keeps v is c (cancel i) a h s = cancel-keeps (v .market) (v .lastId) v c i h s
 effect-keeps v is c (bid b) a h s = thePass-keeps _ is (v .lastId) v c h
 effect-keeps v is c (tape p) a h s = tape-keeps _ is (v .lastId) v c h
 effect-keeps v is c (dayEnd x) a h s = dayEnd-keeps _ (v .lastId) v c h
+effect-keeps v is c (ownedEntry e k) a h s = entry-keeps (v .market) is v c e k (a .0 .place .newId) h s
 
 -- any event, and every run
 

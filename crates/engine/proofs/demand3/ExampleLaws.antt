@@ -28,7 +28,7 @@ unfolding Prices.legal Prices.isBid Prices.permitted Tests.pick
 half-cent-sums = tt
 
 pub played : Played
-unfolding Tests.pick Tests.every Prices.isStep Prices.legal Prices.isBid Prices.permitted Restriction.triggers Restriction.phaseAfterTape Restriction.phaseAfterDayEnd Restriction.restrictionOn Orders.find Orders.ifSame Orders.restingShares Orders.without Orders.insert Matching.reaches Matching.better Matching.betterOf Matching.bestFrom Matching.best Matching.counterparty Matching.execution Matching.afterTrade Matching.meeting Matching.matchingWith Matching.matchingUpTo Matching.matching order-conditions.idsRise order-conditions.stampsDiffer order-conditions.soundOrder Market.restricted Market.permittedNow Working.limitOf Working.followsBid Working.lifeOf Working.workingPrice Working.orderOf Working.remainder Working.afterRemainder Working.work Pass.displayedClear Pass.moveDown Pass.slideOnce Pass.slideDown Pass.maySlide Pass.moveOf Pass.afterMove Pass.passOne Pass.passOver Venue.opened Venue.entering Venue.effectOfEntry Venue.effectOfCancel Venue.thePass Venue.restrictionReport Venue.effectOfDayEnd Venue.effectOf Sound.sound Refusals.refuseUnless Refusals.firstOf Refusals.refusalOfTerms Refusals.refusalOfCodes Refusals.refusalOfPlace Refusals.rests Refusals.refusalOfKind Refusals.refusal Run.stepUnless Run.step Run.run
+unfolding Tests.pick Tests.every Prices.isStep Prices.legal Prices.isBid Prices.permitted Restriction.triggers Restriction.phaseAfterTape Restriction.phaseAfterDayEnd Restriction.restrictionOn Orders.find Orders.ifSame Orders.restingShares Orders.without Orders.insert Matching.reaches Matching.better Matching.betterOf Matching.bestFrom Matching.best Matching.counterparty Matching.execution Matching.afterTrade Matching.trading Matching.withdrawing Matching.sameOwner Matching.meeting Matching.matchingWith Matching.matchingUpTo Matching.matching order-conditions.idsRise order-conditions.stampsDiffer order-conditions.soundOrder Market.restricted Market.permittedNow Working.limitOf Working.followsBid Working.lifeOf Working.workingPrice Working.orderOf Working.remainder Working.afterRemainder Working.work Pass.displayedClear Pass.moveDown Pass.slideOnce Pass.slideDown Pass.maySlide Pass.moveOf Pass.afterMove Pass.passOne Pass.passOver Venue.opened Venue.entering Venue.effectOfEntry Venue.effectOfCancel Venue.thePass Venue.restrictionReport Venue.effectOfDayEnd Venue.effectOf Sound.sound Refusals.refuseUnless Refusals.firstOf Refusals.refusalOfTerms Refusals.refusalOfCodes Refusals.refusalOfOwner Refusals.refusalOfPlace Refusals.refusalOfEntry Refusals.rests Refusals.refusalOfKind Refusals.refusal Run.stepUnless Run.step Run.run
 played =
     record { theDay = refl; clearStays = refl; hiddenMoves = refl; slidingMatches = refl; newStamp = refl; notClear = refl; onceOnly = refl; marketDay = refl; limitOne = refl; bidOfOne = refl; onceKept = refl; halfCentDay = refl; fallingDays = (refl, (refl, tt)); secondFall = refl }
 
@@ -37,7 +37,7 @@ unfolding Tests.pick Tests.every Prices.isStep Prices.legal Prices.isBid order-c
 codes-in-order = (refl, (refl, tt))
 
 pub fills-told : FillsTold
-unfolding Tests.pick Tests.every Prices.isStep Prices.legal Prices.isBid Prices.permitted Restriction.triggers Restriction.phaseAfterTape Restriction.phaseAfterDayEnd Restriction.restrictionOn Orders.find Orders.ifSame Orders.restingShares Orders.without Orders.insert Matching.reaches Matching.better Matching.betterOf Matching.bestFrom Matching.best Matching.counterparty Matching.execution Matching.afterTrade Matching.meeting Matching.matchingWith Matching.matchingUpTo Matching.matching order-conditions.idsRise order-conditions.stampsDiffer order-conditions.soundOrder Market.restricted Market.permittedNow Working.limitOf Working.followsBid Working.lifeOf Working.workingPrice Working.orderOf Working.remainder Working.afterRemainder Working.work Pass.displayedClear Pass.moveDown Pass.slideOnce Pass.slideDown Pass.maySlide Pass.moveOf Pass.afterMove Pass.passOne Pass.passOver Venue.opened Venue.entering Venue.effectOfEntry Venue.effectOfCancel Venue.thePass Venue.restrictionReport Venue.effectOfDayEnd Venue.effectOf Sound.sound Refusals.refuseUnless Refusals.firstOf Refusals.refusalOfTerms Refusals.refusalOfCodes Refusals.refusalOfPlace Refusals.rests Refusals.refusalOfKind Refusals.refusal Run.stepUnless Run.step Run.run Refusals.refusalOfAsked front.sharesReached front.allReached front.suffices front.leastBelow front.frontLength front.frontRead Fill.askedOrder Fill.fillUnless Fill.wouldFill
+unfolding Tests.pick Tests.every Prices.isStep Prices.legal Prices.isBid Prices.permitted Restriction.triggers Restriction.phaseAfterTape Restriction.phaseAfterDayEnd Restriction.restrictionOn Orders.find Orders.ifSame Orders.restingShares Orders.without Orders.insert Matching.reaches Matching.better Matching.betterOf Matching.bestFrom Matching.best Matching.counterparty Matching.execution Matching.afterTrade Matching.trading Matching.withdrawing Matching.sameOwner Matching.meeting Matching.matchingWith Matching.matchingUpTo Matching.matching order-conditions.idsRise order-conditions.stampsDiffer order-conditions.soundOrder Market.restricted Market.permittedNow Working.limitOf Working.followsBid Working.lifeOf Working.workingPrice Working.orderOf Working.remainder Working.afterRemainder Working.work Pass.displayedClear Pass.moveDown Pass.slideOnce Pass.slideDown Pass.maySlide Pass.moveOf Pass.afterMove Pass.passOne Pass.passOver Venue.opened Venue.entering Venue.effectOfEntry Venue.effectOfCancel Venue.thePass Venue.restrictionReport Venue.effectOfDayEnd Venue.effectOf Sound.sound Refusals.refuseUnless Refusals.firstOf Refusals.refusalOfTerms Refusals.refusalOfCodes Refusals.refusalOfOwner Refusals.refusalOfPlace Refusals.refusalOfEntry Refusals.rests Refusals.refusalOfKind Refusals.refusal Run.stepUnless Run.step Run.run Refusals.refusalOfAsked front.sharesReached front.allReached front.suffices front.leastBelow front.frontLength front.frontRead Fill.askedOrder Fill.fillUnless Fill.wouldFill
 fills-told = record { cents = refl; halfCents = refl; empty = refl; spent = refl; broken = refl }
 
 pub other-steps : OtherSteps

@@ -11,10 +11,10 @@ use Rattle.numbers.proofs.TestLaws.{and-T}
 use Rattle.prices.specs.Prices.{isStep, legal}
 use Rattle.engine.specs.declared.Entry.{Entry}
 use Rattle.engine.specs.declared.Event.{Event}
-use Rattle.engine.specs.declared.Event.the-variants.{Entry as entry, Cancel as cancel, Bid as bid, Tape as tape, DayEnd as dayEnd}
+use Rattle.engine.specs.declared.Event.the-variants.{Entry as entry, Cancel as cancel, Bid as bid, Tape as tape, DayEnd as dayEnd, OwnedEntry as ownedEntry}
 use Rattle.engine.specs.rules.Venue.{Venue, opened, opening}
 use Rattle.engine.specs.rules.Sound.{sound}
-use Rattle.engine.specs.rules.Refusals.{refuseUnless, firstOf, refusalOfTerms, refusalOfCodes, refusalOfPlace, refusalOfKind, refusal}
+use Rattle.engine.specs.rules.Refusals.{refuseUnless, firstOf, refusalOfTerms, refusalOfCodes, refusalOfOwner, refusalOfPlace, refusalOfEntry, refusalOfKind, refusal}
 use Rattle.engine.specs.rules.Run.{stepUnless, step, Call, run}
 use Rattle.engine.specs.claims.Reached.{ReachedIsSound, StampsBounded}
 use Rattle.engine.proofs.refinement.RefusalLaws.{NotRefused, Unless, refusal-known}
@@ -96,17 +96,23 @@ place-not : (v : Venue) (id : ℕ) → Refused (refusalOfPlace v id)
 unfolding refusalOfPlace
 place-not v id = refuseUnless-other _ 6 _ tt (refuseUnless-other _ 7 none tt tt)
 
-refusalOfEntry-not : (v : Venue) (e : Entry) → Refused (refusalOfKind v (entry e))
-unfolding refusalOfKind
-refusalOfEntry-not v e = firstOf-not _ _ (terms-not (v.market.step) (e .price) (e .shares)) (firstOf-not _ _ (codes-not e) (place-not v (e .id)))
+owner-not : (k : ℕ) → Refused (refusalOfOwner k)
+unfolding refusalOfOwner
+owner-not k = refuseUnless-other _ 21 _ tt (refuseUnless-other _ 21 none tt tt)
+
+refusalOfEntry-not : (v : Venue) (e : Entry) (ofOwner : Option ℕ) → Refused ofOwner → Refused (refusalOfEntry v e ofOwner)
+unfolding refusalOfEntry
+refusalOfEntry-not v e ofOwner h =
+    firstOf-not _ _ (terms-not (v.market.step) (e .price) (e .shares)) (firstOf-not _ _ (codes-not e) (firstOf-not _ _ h (place-not v (e .id))))
 
 refusalOfKind-not : (v : Venue) (e : Event) → Refused (refusalOfKind v e)
 unfolding refusalOfKind
-refusalOfKind-not v (entry e) = refusalOfEntry-not v e
+refusalOfKind-not v (entry e) = refusalOfEntry-not v e none tt
 refusalOfKind-not v (cancel i) = refuseUnless-other _ 8 none tt tt
 refusalOfKind-not v (bid b) = refuseUnless-other _ 3 none tt tt
 refusalOfKind-not v (tape p) = refuseUnless-other _ 3 none tt tt
 refusalOfKind-not v (dayEnd c) = refuseUnless-other _ 3 none tt tt
+refusalOfKind-not v (ownedEntry e k) = refusalOfEntry-not v e (refusalOfOwner k) (owner-not k)
 
 refusal-not : (v : Venue) (e : Event) (n : ℕ) → T (sound v) → Refused (refusal v e n)
 unfolding refusal

@@ -14,17 +14,17 @@ use Rattle.prices.proofs.RestrictionLaws.{tape-phase, day-end-phase}
 use Rattle.prices.proofs.PriceLaws.{no-bid, max-legal, permitted-legal, max-bid-legal}
 use Rattle.book.specs.declared.Order.{Order}
 use Rattle.book.specs.rules.Orders.{find, without}
-use Rattle.book.specs.rules.Matching.{Matched, meeting, matching, afterTrade}
-use Rattle.book.specs.rules.Sound.{soundOrder, marketAllowed}
+use Rattle.book.specs.rules.Matching.{Matched, Meeting, trading, withdrawing, meeting, matching, afterTrade}
+use Rattle.book.specs.rules.Sound.{mostOwner, soundOrder, marketAllowed}
 use Rattle.book.proofs.definitions.OrderLaws.{idOf, stampOf, Other, Differ, Distinct, taken-all, all-taken, differ-taken, taken-length, mem-taken, insert-taken, without-all, without-other, without-differ, without-length, Found, find-found}
 use Rattle.book.proofs.definitions.RisingLaws.{Rises, idsRise-rises, rises-idsRise, rises-all, rises-distinct, rises-without, rises-insert, rises-afterTrade}
 use Rattle.book.proofs.refinement.SoundBookLaws.{stampsDiffer-differ, differ-stampsDiffer}
-use Rattle.book.proofs.definitions.MeetingLaws.{meeting-known}
+use Rattle.book.proofs.definitions.MeetingLaws.{meeting-by, trading-known, withdrawing-known}
 use Rattle.book.proofs.definitions.MatchingLaws.{afterTrade-all, afterTrade-differ, afterTrade-length, matching-keeps, unread}
 use Rattle.engine.specs.declared.Market.{Market}
 use Rattle.engine.specs.declared.Entry.{Entry}
 use Rattle.engine.specs.declared.Event.{Event}
-use Rattle.engine.specs.declared.Event.the-variants.{Entry as entry, Cancel as cancel, Bid as bid, Tape as tape, DayEnd as dayEnd}
+use Rattle.engine.specs.declared.Event.the-variants.{Entry as entry, Cancel as cancel, Bid as bid, Tape as tape, DayEnd as dayEnd, OwnedEntry as ownedEntry}
 use Rattle.engine.specs.declared.Remainder.{Remainder}
 use Rattle.engine.specs.declared.Remainder.the-variants.{Filled, Cancelled, Rests}
 use Rattle.engine.specs.declared.Move.{Move}
@@ -35,7 +35,7 @@ use Rattle.engine.specs.rules.Pass.{moveDown, slideOnce, slideDown, move
 use Rattle.engine.specs.rules.Venue.{Venue, thePass, entering, effectOfEntry, effectOfCancel, effectOfDayEnd, effectOf, lastIdAfter}
 use Rattle.engine.specs.rules.Sound.{mostOrders, mostEvents, venueConditions, sound}
 use Rattle.book.proofs.definitions.OrderConditionLaws.{FieldsSound, MayWork, MayRest, market-allowed, mayWork-reduced, mayRest-later, order-mayRest, mayRest-order}
-use Rattle.engine.proofs.refinement.RefusalLaws.{Allowed}
+use Rattle.engine.proofs.refinement.RefusalLaws.{EntryAllowed, Allowed}
 use Rattle.engine.proofs.demand3.MarketLaws.{restricted-mark, HasPermitted}
 
 -- the book; g is the step, n the last id and s the last stamp
@@ -106,11 +106,22 @@ remainder-known w =
     (λ t. by-test (RemainderOf w) _ (λ r. (omega tests, omega arith)) (λ r. by-test (RemainderOf w) _ (λ x. (omega tests, omega arith)) (λ x. (omega tests, neqb (w .life) 1 r))))
 
 module _ {g n s : ℕ} {w : Order} {os : List Order} where
-  pub meeting-sound : {o : Order} → List·Memᴰ o os → SoundWork g n s w os → SoundWork g n s ((meeting w o os) .left) ((meeting w o os) .orders)
-  meeting-sound {o} m k =
+  withdrawing-sound : {o : Order} → List·Memᴰ o os → SoundWork g n s w os → SoundWork g n s ((withdrawing w o os) .left) ((withdrawing w o os) .orders)
+  withdrawing-sound {o} m k =
+      rw (withdrawing-known w o os) record {
+        book = book-without (k .book) (o .id);
+        room = omega (arith, without-length (o .id) os, k .room);
+        works = k .works;
+        newStamp = without-all (λ (x : Order). x.stamp ≡ w.stamp → ⊥) (o .id) os (k .newStamp);
+        newId = without-all (Other (w .id)) (o .id) os (k .newId);
+        positive = k .positive;
+      }
+
+  trading-sound : {o : Order} → List·Memᴰ o os → SoundWork g n s w os → SoundWork g n s ((trading w o os) .left) ((trading w o os) .orders)
+  trading-sound {o} m k =
       let q : ℕ = min (w .shares) (o .shares) in
       let d : Distinct os = book-distinct (k .book) in
-      rw (meeting-known w o os) record {
+      rw (trading-known w o os) record {
         book = book-afterTrade (k .book) q m;
         room = omega (arith, afterTrade-length q m d, k .room);
         works = mayWork-reduced g n s q w (k .works);
@@ -118,6 +129,10 @@ module _ {g n s : ℕ} {w : Order} {os : List Order} where
         newId = afterTrade-all q m d (Other (w .id)) (λ z j l h. h) (k .newId);
         positive = k .positive;
       }
+
+  pub meeting-sound : {o : Order} → List·Memᴰ o os → SoundWork g n s w os → SoundWork g n s ((meeting w o os) .left) ((meeting w o os) .orders)
+  meeting-sound {o} m k =
+      meeting-by (λ (x : Meeting). SoundWork g n s (x .left) (x .orders)) w o os (withdrawing-sound m k) (trading-sound m k)
 
   afterRemainder-sound : (x : Remainder) → RemainderOf w x → SoundWork g n s w os → SoundBook g n s ((afterRemainder x w os) .orders)
   unfolding afterRemainder
@@ -280,9 +295,9 @@ module _ (m : Market) (mark price : ℕ) where
   follows-allowed : T (marketAllowed (followsBid m mark price) mark (limitOf mark price))
   follows-allowed = market-allowed (followsBid m mark price) mark (limitOf mark price) follows-short
 
-pub orderOf-sound : (v : Venue) (e : Entry) → Allowed v (entry e) → SoundVenue v → SoundWork (v.market.step) (e .id) (v .lastStamp + 1) (orderOf (v .market) (v .lastStamp + 1) e) (v .orders)
+pub orderOf-sound : (v : Venue) (e : Entry) (k : ℕ) → EntryAllowed v e → k ≤ mostOwner → SoundVenue v → SoundWork (v.market.step) (e .id) (v .lastStamp + 1) (orderOf (v .market) (v .lastStamp + 1) k e) (v .orders)
 unfolding orderOf
-orderOf-sound v e f g =
+orderOf-sound v e k f o g =
     let c = f .codes in
     let m = v .market in
     let t = f .terms in
@@ -292,7 +307,7 @@ orderOf-sound v e f g =
       room = p .room;
       works =
           record {
-            fields = record { mark = c .mark; limit = t .limit; show = c .show; life = life-code m (e .mark) (e .price) (e .life) (c .life); slide = c .slide; entryBid = g .market .bid; market = follows-allowed m (e .mark) (e .price) };
+            fields = record { mark = c .mark; limit = t .limit; show = c .show; life = life-code m (e .mark) (e .price) (e .life) (c .life); slide = c .slide; entryBid = g .market .bid; market = follows-allowed m (e .mark) (e .price); owner = o };
             id = omega arith;
             first = omega arith;
             last = omega arith;
@@ -310,6 +325,7 @@ marketAfter-sound v (cancel i) f g = g
 marketAfter-sound v (bid b) f g = record { step = g .step; phase = g .phase; close = g .close; bid = f }
 marketAfter-sound v (tape p) f g = record { step = g .step; phase = tape-phase (v .market .close) (v .market .phase) p (g .phase); close = g .close; bid = g .bid }
 marketAfter-sound v (dayEnd c) f g = record { step = g .step; phase = day-end-phase (v .market .phase); close = f; bid = no-bid (v.market.step) }
+marketAfter-sound v (ownedEntry e k) f g = g
 
 thePass-sound : (m : Market) (v : Venue) → HasPermitted m → SoundBook (m .step) (v .lastId) (v .lastStamp) (v .orders) → SoundEffect (m .step) (v .lastId) (v .lastStamp) mostOrders (thePass m v)
 unfolding thePass
@@ -319,8 +335,9 @@ thePass-sound m v t b =
 
 pub effectOf-sound : (v : Venue) (e : Event) → Allowed v e → SoundVenue v → let m : Market = marketAfter e (v .market) in SoundEffect (m .step) (lastIdAfter v e) (v .lastStamp) mostOrders (effectOf m v e)
 unfolding effectOf entering effectOfEntry orderOf effectOfCancel effectOfDayEnd
-effectOf-sound v (entry e) f g = (work-sound _ (v .orders) (orderOf-sound v e f g), omega arith)
+effectOf-sound v (entry e) f g = (work-sound _ (v .orders) (orderOf-sound v e 0 f (omega arith) g), omega arith)
 effectOf-sound v (cancel i) f g = (book-without (g .book) i, omega arith)
 effectOf-sound v (bid b) f g = thePass-sound _ v (g .market .step, f) (g .book)
 effectOf-sound v (tape p) f g = thePass-sound _ v (market-permits (g .market)) (g .book)
 effectOf-sound v (dayEnd c) f g = (record { few = omega arith; rises = tt; orders = tt; stamps = tt }, omega arith)
+effectOf-sound v (ownedEntry e k) f g = (work-sound _ (v .orders) (orderOf-sound v e k (f .0) (f .1 .most) g), omega arith)

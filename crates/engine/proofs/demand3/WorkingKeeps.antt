@@ -11,17 +11,17 @@ use Rattle.numbers.specs.Tests.{pick, All}
 use Rattle.numbers.proofs.TestLaws.{by-test, ne→T, neqb, tests, all-both}
 use Rattle.book.specs.declared.Order.{Order}
 use Rattle.book.specs.rules.Orders.{isBuy, reduced, ifSame, without, insert}
-use Rattle.book.specs.rules.Matching.{Execution, execution, afterTrade, meeting, Matched, matching}
+use Rattle.book.specs.rules.Matching.{Execution, execution, afterTrade, Happening, Meeting, trading, withdrawing, meeting, Matched, matching}
 use Rattle.book.proofs.definitions.ShareLaws.{ifSame-less}
-use Rattle.book.proofs.definitions.OrderLaws.{shares-first, idOf, Other, Distinct, TakenOut, taken-all, all-taken, mem-taken, insert-taken}
+use Rattle.book.proofs.definitions.OrderLaws.{shares-first, idOf, Other, Distinct, TakenOut, taken-all, taken-differ, taken-shares, all-taken, mem-taken, insert-taken}
 use Rattle.book.proofs.definitions.CounterpartyLaws.{reach-sell, Unreached, unreached-buy, unreached-sell, Reached}
-use Rattle.book.proofs.definitions.MeetingLaws.{execution-by, meeting-known}
+use Rattle.book.proofs.definitions.MeetingLaws.{execution-by, meeting-by, trading-known, withdrawing-known}
 use Rattle.book.proofs.definitions.MatchingLaws.{KeptReduced, KeptResting, afterTrade-all, afterTrade-differ, afterTrade-shares, matching-keeps, matching-all, matching-ends}
 use Rattle.engine.specs.declared.Market.{Market}
 use Rattle.engine.specs.declared.Remainder.{Remainder}
 use Rattle.engine.specs.declared.Remainder.the-variants.{Filled, Cancelled, Rests}
-use Rattle.engine.specs.rules.Working.{remainder, afterRemainder, work}
-use Rattle.engine.specs.claims.Account.{Tallies, fillOf, readExecution, readReport}
+use Rattle.engine.specs.rules.Working.{remainder, afterRemainder, happened, work}
+use Rattle.engine.specs.claims.Account.{Tallies, fillOf, readExecution, readCancelled, readReport}
 use Rattle.engine.specs.claims.Demand3.{FilledLawfully}
 use Rattle.engine.proofs.demand3.MarketLaws.{restricted-in}
 use Rattle.engine.proofs.demand3.Invariant.{TalliesKnow, Separated, AboveOrClear, SafelyPriced, BookAgrees, WhileWorking}
@@ -81,11 +81,11 @@ module _ (m : Market) (n : ℕ) (w o : Order) (os : List Order) (c : Tallies) (r
   buyer-lawful : (z : Order) → TalliesKnow n c z → T (isBuy z) → FilledLawfully (fillOf m c (z .id) (o .price))
   buyer-lawful z h t p e = absurd (omega (tests, h .mark))
 
-  meeting-keeps : WhileWorking m n ((meeting w o os) .left) ((meeting w o os) .orders) (readExecution m c ((meeting w o os) .execution))
-  meeting-keeps =
+  trading-keeps : WhileWorking m n ((trading w o os) .left) ((trading w o os) .orders) (readReport m c (happened ((trading w o os) .happening)))
+  trading-keeps =
       let q : ℕ = min (w .shares) (o .shares) in
       rw
-      (meeting-known w o os)
+      (trading-known w o os)
       (execution-by
       (λ (x : Execution). WhileWorking m n (reduced q w) (afterTrade o q os) (readExecution m c x))
       w
@@ -93,6 +93,27 @@ module _ (m : Market) (n : ℕ) (w o : Order) (os : List Order) (c : Tallies) (r
       q
       (λ t. trade-keeps q (w .id) (o .id) (omega arith) (omega arith) (λ k. refl) (buyer-lawful w (i .tallies .known .0) t) (resting-lawful t))
       (λ t. trade-keeps q (o .id) (w .id) (omega arith) (omega arith) (λ k. omega arith) (buyer-lawful o known (reach-sell w o t (r .1) .0)) (working-lawful t)))
+
+  -- the resting order is cancelled
+  withdrawn-keeps : WhileWorking m n w (without (o .id) os) (readCancelled (o .id) (o .shares) c)
+  withdrawn-keeps =
+      record {
+        tallies =
+            record {
+              known = (i .tallies .known .0, taken-all (TalliesKnow n c) taken (i .tallies .known .1) .1);
+              distinct = (taken-all (Other (w .id)) taken (i .tallies .distinct .0) .1, taken-differ idOf taken distinct .1);
+              shares = λ k. omega (arith, i .tallies .shares k, shares-first k w os, shares-first k w (without (o .id) os), taken-shares taken k);
+              executions = i .tallies .executions;
+            };
+        uncrossed = record { border = i .uncrossed .border; separated = taken-all (Separated (i .uncrossed .border)) taken (i .uncrossed .separated) .1 };
+        working = i.working;
+        above = i.above;
+        safe = λ z. taken-all (SafelyPriced m) taken (i .safe z) .1;
+      }
+
+  meeting-keeps : WhileWorking m n ((meeting w o os) .left) ((meeting w o os) .orders) (readReport m c (happened ((meeting w o os) .happening)))
+  meeting-keeps =
+      meeting-by (λ (x : Meeting). WhileWorking m n (x .left) (x .orders) (readReport m c (happened (x .happening)))) w o os (rw (withdrawing-known w o os) withdrawn-keeps) trading-keeps
 
 -- what becomes of the remainder
 
@@ -143,13 +164,17 @@ afterRemainder-all P Filled w os p h = h
 afterRemainder-all P (Cancelled cause) w os p h = h
 afterRemainder-all P Rests w os p h = all-taken P (insert-taken w os) p h
 
+-- what the tallies read of a meeting
+abbrev readHappening : Market → Tallies → Happening → Tallies
+readHappening m c x = readReport m c (happened x)
+
 -- an order works
 
 pub work-keeps : (m : Market) (n : ℕ) (w : Order) (os : List Order) (c : Tallies) → WhileWorking m n w os c → BookAgrees n ((work w os) .orders) (foldl (readReport m) c ((work w os) .reports))
 unfolding work
 work-keeps m n w os c i =
     let x : Matched = matching w os in
-    rw (foldl-append, foldl-map) (afterRemainder-keeps m n (remainder (x .left)) (x .left) (x .orders) (foldl (readExecution m) c (x .executions)) (remainder-fits (x .left) (x .orders) (matching-ends w os (i .tallies .distinct .1))) (matching-keeps (readExecution m) (WhileWorking m n) (meeting-keeps m n) w os c i))
+    rw (foldl-append, foldl-map) (afterRemainder-keeps m n (remainder (x .left)) (x .left) (x .orders) (foldl (readHappening m) c (x .happenings)) (remainder-fits (x .left) (x .orders) (matching-ends w os (i .tallies .distinct .1))) (matching-keeps (readHappening m) (WhileWorking m n) (meeting-keeps m n) w os c i))
 
 -- what the shares of an order don't touch is kept
 pub work-all : (P : Order → Type 0) → KeptReduced P → (w : Order) (os : List Order) → Distinct os → P w → All P os → All P ((work w os) .orders)

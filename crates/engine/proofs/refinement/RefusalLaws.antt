@@ -9,14 +9,14 @@ use Rattle.numbers.proofs.TestLaws.{by-test, or-T, conj-T, T-and}
 use Rattle.prices.specs.Prices.{isStep, legal, isBid}
 use Rattle.prices.proofs.PriceLaws.{highest-legal, one-legal}
 use Rattle.book.specs.rules.Orders.{find}
-use Rattle.book.specs.rules.Sound.{mostShares, slideAllowed}
+use Rattle.book.specs.rules.Sound.{mostShares, mostOwner, slideAllowed}
 use Rattle.engine.specs.declared.Entry.{Entry}
 use Rattle.engine.specs.declared.Event.{Event}
-use Rattle.engine.specs.declared.Event.the-variants.{Entry as entry, Cancel as cancel, Bid as bid, Tape as tape, DayEnd as dayEnd}
+use Rattle.engine.specs.declared.Event.the-variants.{Entry as entry, Cancel as cancel, Bid as bid, Tape as tape, DayEnd as dayEnd, OwnedEntry as ownedEntry}
 use Rattle.engine.specs.rules.Working.{isMarket, limitOf}
 use Rattle.engine.specs.rules.Venue.{Venue}
 use Rattle.engine.specs.rules.Sound.{mostOrders, mostEvents, venueConditions, sound}
-use Rattle.engine.specs.rules.Refusals.{refuseUnless, firstOf, refusalOfTerms, refusalOfCodes, refusalOfPlace, rests, refusalOfKind, leastBuffer, refusal}
+use Rattle.engine.specs.rules.Refusals.{refuseUnless, firstOf, refusalOfTerms, refusalOfCodes, refusalOfOwner, refusalOfPlace, refusalOfEntry, rests, refusalOfKind, leastBuffer, refusal}
 
 -- the step of a sound record is 50 or 100
 pub sound-step : (v : Venue) → T (sound v) → T (isStep (v.market.step))
@@ -31,17 +31,25 @@ TermsAllowed step e = record { limit : T (legal step (limitOf (e .mark) (e .pric
 abbrev pub CodesAllowed : Entry → Type 0
 CodesAllowed e = record { mark : e.mark ≤ 3; show : e.show ≤ 1; life : e.life ≤ 1; slide : T (slideAllowed (e .mark) (e .slide)) }
 
+-- what those of its owner leave
+abbrev pub OwnerAllowed : ℕ → Type 0
+OwnerAllowed k = record { least : 1 ≤ k; most : k ≤ mostOwner }
+
 -- what those of its place leave
 abbrev pub PlaceAllowed : Venue → ℕ → Type 0
 PlaceAllowed v id = record { newId : v.lastId < id; room : length (v .orders) < mostOrders }
 
--- what the refusals of its kind leave of an event
+-- what an entry of either kind has, and what the refusals of its kind leave of an event
+abbrev pub EntryAllowed : Venue → Entry → Type 0
+EntryAllowed v e = record { terms : TermsAllowed (v.market.step) e; codes : CodesAllowed e; place : PlaceAllowed v (e .id) }
+
 abbrev pub Allowed : Venue → Event → Type 0
-Allowed v (entry e) = record { terms : TermsAllowed (v.market.step) e; codes : CodesAllowed e; place : PlaceAllowed v (e .id) }
+Allowed v (entry e) = EntryAllowed v e
 Allowed v (cancel i) = T (rests (find i (v .orders)))
 Allowed v (bid b) = T (isBid (v.market.step) b)
 Allowed v (tape p) = T (legal (v.market.step) p)
 Allowed v (dayEnd c) = T (legal (v.market.step) c)
+Allowed v (ownedEntry e k) = EntryAllowed v e × OwnerAllowed k
 
 -- what all refusals leave; n is the length of the lent report buffer
 pub record NotRefused (v : Venue) (e : Event) (n : ℕ) : Type 0 where
@@ -92,22 +100,32 @@ refusalOfCodes-known e =
     refuseUnless-known _ (leb (e .slide) 3) _ _ (λ c.
     refuseUnless-known _ _ _ none (λ r. record { mark = leb→le _ _ m; show = leb→le _ _ s; life = leb→le _ _ l; slide = T-and (leb (e .slide) 3) _ c r })))))
 
+refusalOfOwner-known : (k : ℕ) → Unless (refusalOfOwner k) (OwnerAllowed k)
+unfolding refusalOfOwner
+refusalOfOwner-known k =
+    refuseUnless-known _ (leb 1 k) _ _ (λ a. refuseUnless-known _ (leb k mostOwner) _ none (λ b. record { least = leb→le _ _ a; most = leb→le _ _ b }))
+
 refusalOfPlace-known : (v : Venue) (id : ℕ) → Unless (refusalOfPlace v id) (PlaceAllowed v id)
 unfolding refusalOfPlace
 refusalOfPlace-known v id = refuseUnless-known _ _ _ _ (λ i. refuseUnless-known _ _ _ none (λ r. record { newId = leb→le _ _ i; room = leb→le _ _ r }))
 
-refusalOfEntry-known : (v : Venue) → T (isStep (v.market.step)) → (e : Entry) → Unless (refusalOfKind v (entry e)) (Allowed v (entry e))
-unfolding refusalOfKind
-refusalOfEntry-known v is e =
-    firstOf-known _ _ _ _ (refusalOfTerms-known (v.market.step) is e) (λ t. firstOf-known _ _ _ _ (refusalOfCodes-known e) (λ c. unless-map _ _ (λ p. record { terms = t; codes = c; place = p }) (refusalOfPlace v (e .id)) (refusalOfPlace-known v (e .id))))
+-- an entry's, with what those of its owner leave
+refusalOfEntry-known : (v : Venue) → T (isStep (v.market.step)) → (e : Entry) (P : Type 0) (ofOwner : Option ℕ) → Unless ofOwner P → Unless (refusalOfEntry v e ofOwner) (EntryAllowed v e × P)
+unfolding refusalOfEntry
+refusalOfEntry-known v is e P ofOwner h =
+    firstOf-known _ _ _ _ (refusalOfTerms-known (v.market.step) is e) (λ t.
+    firstOf-known _ _ _ _ (refusalOfCodes-known e) (λ c.
+    firstOf-known _ _ _ _ h (λ o.
+    unless-map _ _ (λ p. (record { terms = t; codes = c; place = p }, o)) (refusalOfPlace v (e .id)) (refusalOfPlace-known v (e .id)))))
 
 pub refusalOfKind-known : (v : Venue) → T (isStep (v.market.step)) → (e : Event) → Unless (refusalOfKind v e) (Allowed v e)
 unfolding refusalOfKind
-refusalOfKind-known v is (entry e) = refusalOfEntry-known v is e
+refusalOfKind-known v is (entry e) = unless-map _ _ (λ k. k .0) (refusalOfEntry v e none) (refusalOfEntry-known v is e (Unit {0}) none tt)
 refusalOfKind-known v is (cancel i) = refuseUnless-known _ _ _ none (λ t. t)
 refusalOfKind-known v is (bid b) = refuseUnless-known _ _ _ none (λ t. t)
 refusalOfKind-known v is (tape p) = refuseUnless-known _ _ _ none (λ t. t)
 refusalOfKind-known v is (dayEnd c) = refuseUnless-known _ _ _ none (λ t. t)
+refusalOfKind-known v is (ownedEntry e k) = refusalOfEntry-known v is e (OwnerAllowed k) (refusalOfOwner k) (refusalOfOwner-known k)
 
 pub refusal-known : (v : Venue) (e : Event) (n : ℕ) → Unless (refusal v e n) (NotRefused v e n)
 unfolding refusal

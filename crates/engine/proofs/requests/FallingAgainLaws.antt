@@ -24,7 +24,7 @@ use Rattle.book.specs.rules.Matching.{Execution, matching}
 use Rattle.book.specs.rules.Words.{isBook}
 use Rattle.engine.specs.declared.Market.{Market}
 use Rattle.engine.specs.declared.Event.{Event}
-use Rattle.engine.specs.declared.Event.the-variants.{Entry as entry, Cancel as cancel, Bid as bid, Tape as tape, DayEnd as dayEnd}
+use Rattle.engine.specs.declared.Event.the-variants.{Entry as entry, Cancel as cancel, Bid as bid, Tape as tape, DayEnd as dayEnd, OwnedEntry as ownedEntry}
 use Rattle.engine.specs.declared.Remainder.{Remainder}
 use Rattle.engine.specs.declared.Remainder.the-variants.{Filled, Cancelled, Rests}
 use Rattle.engine.specs.declared.Move.{Move}
@@ -218,6 +218,7 @@ market-agrees (cancel i) m f h = h
 market-agrees (bid b) m f h = record { close = h .close; phase = h .phase }
 market-agrees (tape p) m f h = record { close = h .close; phase = rw (h .close, h .phase) (tape-by-falls f p) }
 market-agrees (dayEnd c) m f h = record { close = refl; phase = rw (h .phase) (day-end-by-falls f c) }
+market-agrees (ownedEntry e k) m f h = h
 
 -- the reports that are due
 
@@ -246,6 +247,7 @@ reports-due v (tape p) f h =
     let m : Market = marketAfter (tape p) (v .market) in
     phase-append (restrictionReport (v .market) m) _ ∙ rw (the-pass-no-phase m v, append-nil) (restriction-due (v .market) m f p (h .phase) (market-agrees (tape p) (v .market) f h .phase))
 reports-due v (dayEnd c) f h = day-end-last (v .orders) _ ∙ ap (λ (k : ℕ). dayEnded k ∷ []) (rw (h .phase) (day-end-by-falls f c))
+reports-due v (ownedEntry e k) f h = work-no-phase _ (v .orders)
 
 -- every list
 

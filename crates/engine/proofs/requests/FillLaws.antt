@@ -14,14 +14,14 @@ use Rattle.numbers.proofs.TestLaws.{by-test, pick-yes, bool-ext, eq→T}
 use Rattle.book.specs.declared.Order.{Order}
 use Rattle.book.specs.declared.FrontRead.{FrontRead}
 use Rattle.book.specs.rules.Orders.{ifSame}
-use Rattle.book.specs.rules.Matching.{Execution, meeting, Matched, matching}
+use Rattle.book.specs.rules.Matching.{Execution, Happening, traded, Meeting, trading, withdrawing, meeting, Matched, matching}
 use Rattle.book.specs.rules.Sound.{mostShares}
 use Rattle.book.specs.rules.Words.{resting, isBook}
 use Rattle.book.specs.rules.Fill.{allReached, frontRead}
 use Rattle.book.proofs.definitions.ShareLaws.{ifSame-same, ifSame-other}
-use Rattle.book.proofs.definitions.OrderLaws.{idOf, Other, Distinct, taken-all, mem-taken}
+use Rattle.book.proofs.definitions.OrderLaws.{idOf, Other, Distinct, taken-all, mem-taken, without-all, without-differ}
 use Rattle.book.proofs.definitions.CounterpartyLaws.{Reached}
-use Rattle.book.proofs.definitions.MeetingLaws.{execution-by, meeting-known}
+use Rattle.book.proofs.definitions.MeetingLaws.{execution-by, meeting-by, trading-known, withdrawing-known}
 use Rattle.book.proofs.definitions.MatchingLaws.{afterTrade-all, afterTrade-differ, matching-keeps}
 use Rattle.book.proofs.definitions.FillLaws.{front-fills, front-enough, front-shortest, front-whole, reached-alike, matching-left}
 use Rattle.engine.specs.declared.Market.{Market}
@@ -29,11 +29,11 @@ use Rattle.engine.specs.declared.Entry.{Entry}
 use Rattle.engine.specs.declared.Event.the-variants.{Entry as entry}
 use Rattle.engine.specs.declared.Remainder.{Remainder}
 use Rattle.engine.specs.declared.Remainder.the-variants.{Filled, Cancelled, Rests}
-use Rattle.engine.specs.rules.Reports.{Report, executed}
-use Rattle.engine.specs.rules.Working.{orderOf, remainder, afterRemainder, work}
+use Rattle.engine.specs.rules.Reports.{Report}
+use Rattle.engine.specs.rules.Working.{orderOf, remainder, afterRemainder, happened, work}
 use Rattle.engine.specs.rules.Venue.{Venue, entering, effectOfEntry, effectOf}
 use Rattle.engine.specs.rules.Sound.{mostEvents, sound}
-use Rattle.engine.specs.rules.Refusals.{refuseUnless, firstOf, refusalOfTerms, refusalOfOtherCodes, refusalOfCodes, refusalOfAsked, refusalOfPlace, refusalOfKind, leastBuffer, refusal}
+use Rattle.engine.specs.rules.Refusals.{refuseUnless, firstOf, refusalOfTerms, refusalOfOtherCodes, refusalOfCodes, refusalOfAsked, refusalOfPlace, refusalOfEntry, refusalOfKind, leastBuffer, refusal}
 use Rattle.engine.specs.rules.Run.{Step, stepUnless, step}
 use Rattle.engine.specs.rules.Records.{reportsBytes}
 use Rattle.engine.specs.rules.Answers.{countOf, bufferAfter}
@@ -111,7 +111,7 @@ codes-and-place true codes place c p = others-first codes place c p
 codes-and-place false codes place c p = refl
 
 kind-asked : (v : Venue) (e : Entry) → ofVenueTermsOrMark (refusalOfKind v (entry e)) ≡ refusalOfAsked (v.market.step) (e .mark) (e .price) (e .shares)
-unfolding refusalOfKind refusalOfAsked refusalOfCodes
+unfolding refusalOfKind refusalOfEntry firstOf refusalOfAsked refusalOfCodes
 kind-asked v e =
     asked-first (refusalOfTerms (v.market.step) (e .price) (e .shares)) _ (terms-asked (v.market.step) (e .price) (e .shares))
     ∙ ap (firstOf (refusalOfTerms (v.market.step) (e .price) (e .shares))) (codes-and-place _ (refusalOfOtherCodes e) (refusalOfPlace v (e .id)) (codes-others e) (place-others v (e .id)))
@@ -154,10 +154,10 @@ executed-append k [] qs = omega arith
 executed-append k (r ∷ rs) qs = omega (arith, executed-append k rs qs)
 
 -- read one after another
-abbrev readFor : ℕ → ℕ → Execution → ℕ
-readFor k n x = n + executedBy k (executed x)
+abbrev readFor : ℕ → ℕ → Happening → ℕ
+readFor k n x = n + executedBy k (happened x)
 
-executed-read : (k n : ℕ) (xs : List Execution) → foldl (readFor k) n xs ≡ n + executedFor k (map executed xs)
+executed-read : (k n : ℕ) (xs : List Happening) → foldl (readFor k) n xs ≡ n + executedFor k (map happened xs)
 unfolding executedFor
 executed-read k n [] = omega arith
 executed-read k n (x ∷ xs) = omega (arith, executed-read k (readFor k n x) xs)
@@ -169,33 +169,43 @@ remainder-executed k (Cancelled cause) w os = refl
 remainder-executed k Rests w os = refl
 
 -- matching executes for a working order what it takes of its shares
-matching-executed : (w : Order) (os : List Order) → All (Other (w .id)) os → Distinct os → let m : Matched = matching w os in executedFor (w .id) (map executed (m .executions)) + m .left .shares ≡ w.shares
+matching-executed : (w : Order) (os : List Order) → All (Other (w .id)) os → Distinct os → let m : Matched = matching w os in executedFor (w .id) (map happened (m .happenings)) + m .left .shares ≡ w.shares
 matching-executed w os h d =
     let m : Matched = matching w os in
-    omega (arith, executed-read (w .id) 0 (m .executions), matching-keeps (readFor (w .id)) Kept keeps w os 0 (refl, h, d, omega arith) .3)
+    omega (arith, executed-read (w .id) 0 (m .happenings), matching-keeps (readFor (w .id)) Kept keeps w os 0 (refl, h, d, omega arith) .3)
   where
     Kept : Order → List Order → ℕ → Type 0
     Kept x l n = (x.id ≡ w.id) × All (Other (w .id)) l × Distinct l × (n + x.shares ≡ w.shares)
 
-    keeps : (x o : Order) (l : List Order) (n : ℕ) → Reached x l (some o) → Kept x l n → Kept ((meeting x o l) .left) ((meeting x o l) .orders) (readFor (w .id) n ((meeting x o l) .execution))
-    keeps x o l n r i =
+    KeptIn : ℕ → Meeting → Type 0
+    KeptIn n z = Kept (z .left) (z .orders) (readFor (w .id) n (z .happening))
+
+    trades : (x o : Order) (l : List Order) (n : ℕ) → Reached x l (some o) → Kept x l n → KeptIn n (trading x o l)
+    trades x o l n r i =
         let q : ℕ = min (x .shares) (o .shares) in
         let own : ifSame (w .id) (x .id) q ≡ q = ap (λ (j : ℕ). ifSame (w .id) j q) (i .0) ∙ ifSame-same (w .id) q in
         let other : ifSame (w .id) (o .id) q ≡ 0 = ifSame-other (w .id) (o .id) q (λ z. taken-all (Other (w .id)) (mem-taken (r .0) (i .2)) (i .1) .0 (sym z)) in
         rw
-        (meeting-known x o l)
-        (i .0, afterTrade-all q (r .0) (i .2) (Other (w .id)) (λ z s l h. h) (i .1), afterTrade-differ q (r .0) (i .2) idOf refl (i .2), execution-by (λ (y : Execution). readFor (w .id) n y + (x.shares - q) ≡ w.shares) x o q (λ t. omega (arith, own, other, i .3)) (λ t. omega (arith, own, other, i .3)))
+        (trading-known x o l)
+        (i .0, afterTrade-all q (r .0) (i .2) (Other (w .id)) (λ z s l h. h) (i .1), afterTrade-differ q (r .0) (i .2) idOf refl (i .2), execution-by (λ (y : Execution). readFor (w .id) n (traded y) + (x.shares - q) ≡ w.shares) x o q (λ t. omega (arith, own, other, i .3)) (λ t. omega (arith, own, other, i .3)))
 
-work-executed : (w : Order) (os : List Order) → All (Other (w .id)) os → Distinct os → executedFor (w .id) ((work w os) .reports) + (w.shares - allReached w os) ≡ w.shares
+    withdraws : (x o : Order) (l : List Order) (n : ℕ) → Kept x l n → KeptIn n (withdrawing x o l)
+    withdraws x o l n i =
+        rw (withdrawing-known x o l) (i .0, without-all (Other (w .id)) (o .id) l (i .1), without-differ idOf (o .id) l (i .2), omega (arith, i .3))
+
+    keeps : (x o : Order) (l : List Order) (n : ℕ) → Reached x l (some o) → Kept x l n → KeptIn n (meeting x o l)
+    keeps x o l n r i = meeting-by (KeptIn n) x o l (withdraws x o l n i) (trades x o l n r i)
+
+work-executed : (w : Order) (os : List Order) → w.owner ≡ 0 → All (Other (w .id)) os → Distinct os → executedFor (w .id) ((work w os) .reports) + (w.shares - allReached w os) ≡ w.shares
 unfolding work
-work-executed w os h d =
+work-executed w os u h d =
     let m : Matched = matching w os in
-    omega (arith, executed-append (w .id) (map executed (m .executions)) ((afterRemainder (remainder (m .left)) (m .left) (m .orders)) .reports), remainder-executed (w .id) (remainder (m .left)) (m .left) (m .orders), matching-executed w os h d, matching-left w os d)
+    omega (arith, executed-append (w .id) (map happened (m .happenings)) ((afterRemainder (remainder (m .left)) (m .left) (m .orders)) .reports), remainder-executed (w .id) (remainder (m .left)) (m .left) (m .orders), matching-executed w os h d, matching-left w os u d)
 
 -- the order that is asked about reaches whom the entry's order reaches, whatever its id, stamp, show, life and slide
-asked-reached : (m : Market) (s : ℕ) (e : Entry) (os : List Order) → allReached (askedOrder m (e .mark) (e .price) (e .shares)) os ≡ allReached (orderOf m s e) os
+asked-reached : (m : Market) (s : ℕ) (e : Entry) (os : List Order) → allReached (askedOrder m (e .mark) (e .price) (e .shares)) os ≡ allReached (orderOf m s 0 e) os
 unfolding askedOrder orderOf
-asked-reached m s e os = reached-alike (askedOrder m (e .mark) (e .price) (e .shares)) (orderOf m s e) refl refl os
+asked-reached m s e os = reached-alike (askedOrder m (e .mark) (e .price) (e .shares)) (orderOf m s 0 e) refl refl os
 
 -- what an entry would do
 
@@ -204,10 +214,10 @@ module _ (v : Venue) (e : Entry) where
   asked = askedOrder (v .market) (e .mark) (e .price) (e .shares)
 
   abbrev working : Order
-  working = orderOf (v .market) (v .lastStamp + 1) e
+  working = orderOf (v .market) (v .lastStamp + 1) 0 e
 
   abbrev theReports : List Report
-  theReports = effectOfEntry (v .market) v e .reports
+  theReports = effectOfEntry (v .market) v 0 e .reports
 
   work-reports : executedFor (e .id) theReports ≡ executedFor (working .id) (work working (v .orders) .reports)
   unfolding effectOfEntry entering executedFor orderOf
@@ -219,7 +229,7 @@ module _ (v : Venue) (e : Entry) where
     unfolding orderOf
     entry-executed =
         let g = sound-venue v s .book in
-        omega (arith, work-reports, asked-reached (v .market) (v .lastStamp + 1) e (v .orders), work-executed working (v .orders) (book-others g i) (book-distinct g))
+        omega (arith, work-reports, asked-reached (v .market) (v .lastStamp + 1) e (v .orders), work-executed working (v .orders) refl (book-others g i) (book-distinct g))
 
     all-executed : 1 ≤ e.shares → leb (e .shares) (allReached asked (v .orders)) ≡ eqb (executedFor (e .id) theReports) (e .shares)
     all-executed p =
@@ -258,7 +268,7 @@ tells-the-truth v e n rs q = go (refusal v (entry e) n) refl q
     go : (x : Option ℕ) → refusal v (entry e) n ≡ x → stepUnless x v (entry e) .answer ≡ gives rs → TrueOf e rs (answerFor v e)
     go (some k) r z = let y : _≡_ {A = ℕ} 0 1 = cc in absurd (omega arith)
     go none r z =
-        let y : effectOfEntry (v .market) v e .reports ≡ rs = cc in
+        let y : effectOfEntry (v .market) v 0 e .reports ≡ rs = cc in
         subst (λ (l : List Report). TrueOf e l (answerFor v e)) y (accepted-true v e n r)
 
 -- Of the calls

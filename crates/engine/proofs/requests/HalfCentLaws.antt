@@ -12,13 +12,13 @@ use Rattle.book.specs.rules.Sound.{soundOrder}
 use Rattle.engine.specs.declared.Market.{Market}
 use Rattle.engine.specs.declared.Entry.{Entry}
 use Rattle.engine.specs.declared.Event.{Event}
-use Rattle.engine.specs.declared.Event.the-variants.{Entry as entry, Cancel as cancel, Bid as bid, Tape as tape, DayEnd as dayEnd}
+use Rattle.engine.specs.declared.Event.the-variants.{Entry as entry, Cancel as cancel, Bid as bid, Tape as tape, DayEnd as dayEnd, OwnedEntry as ownedEntry}
 use Rattle.engine.specs.rules.Market.{marketAfter, restricted, permittedNow}
 use Rattle.engine.specs.rules.Working.{followsBid, lifeOf, workingPrice, orderOf}
 use Rattle.engine.specs.rules.Pass.{slideDown, moveOf, passOver}
 use Rattle.engine.specs.rules.Venue.{Venue, opening, entering, effectOfEntry, effectOfCancel, thePass, restrictionReport, effectOfDayEnd, effectOf}
 use Rattle.engine.specs.rules.Sound.{sound}
-use Rattle.engine.specs.rules.Refusals.{refuseUnless, refusalOfTerms, refusalOfKind, refusal}
+use Rattle.engine.specs.rules.Refusals.{refuseUnless, refusalOfTerms, refusalOfEntry, refusalOfKind, refusal}
 use Rattle.engine.specs.rules.Run.{stepUnless, step}
 use Rattle.engine.specs.claims.HalfCents.{soundBefore, refusalBefore, EventsAsBefore, PricesGivenAsBefore, withStep, venueWithStep, CentsAsBefore, OthersRefused, OtherStepsRefused}
 use Rattle.engine.proofs.refinement.RefusalLaws.{sound-step}
@@ -33,14 +33,16 @@ module _ (v : Venue) (h : v.market.step ≡ 100) where
   kept (bid b) = h
   kept (tape p) = h
   kept (dayEnd c) = h
+  kept (ownedEntry e k) = h
 
   kinds : (e : Event) → refusalOfKind v e ≡ refusalBefore v e
-  unfolding refusalOfKind refusalOfTerms legal isBid
+  unfolding refusalOfKind refusalOfEntry refusalOfTerms legal isBid
   kinds (entry e) = rw h
   kinds (cancel i) = refl
   kinds (bid b) = rw h
   kinds (tape p) = rw h
   kinds (dayEnd c) = rw h
+  kinds (ownedEntry e k) = rw h
 
   records : sound v ≡ soundBefore v
   unfolding sound soundOrder isStep legal isBid
@@ -57,9 +59,9 @@ given m h = record { works = λ mark price. rw h; moves = λ o. rw h }
 -- by the permitted price alone
 
 module _ (s t : ℕ) (m : Market) (h : permitted s (m .bid) ≡ permitted t (m .bid)) where
-  same-order : (stamp : ℕ) (e : Entry) → orderOf (withStep s m) stamp e ≡ orderOf (withStep t m) stamp e
+  same-order : (stamp k : ℕ) (e : Entry) → orderOf (withStep s m) stamp k e ≡ orderOf (withStep t m) stamp k e
   unfolding orderOf workingPrice lifeOf followsBid restricted permittedNow
-  same-order stamp e = rw h
+  same-order stamp k e = rw h
 
   pass : (is : List ℕ) (os : List Order) (n : ℕ) → passOver (withStep s m) is os n ≡ passOver (withStep t m) is os n
   unfolding permittedNow
@@ -67,11 +69,12 @@ module _ (s t : ℕ) (m : Market) (h : permitted s (m .bid) ≡ permitted t (m .
 
   same-effect : (v : Venue) (e : Event) → effectOf (withStep s m) (venueWithStep s v) e ≡ effectOf (withStep t m) (venueWithStep t v) e
   unfolding effectOf effectOfEntry effectOfCancel thePass restrictionReport effectOfDayEnd
-  same-effect v (entry e) = ap (λ (o : Order). entering o (v .orders)) (same-order (v .lastStamp + 1) e)
+  same-effect v (entry e) = ap (λ (o : Order). entering o (v .orders)) (same-order (v .lastStamp + 1) 0 e)
   same-effect v (cancel i) = refl
   same-effect v (bid b) = pass _ (v .orders) (v .lastStamp)
   same-effect v (tape p) = rw (pass _ (v .orders) (v .lastStamp))
   same-effect v (dayEnd c) = refl
+  same-effect v (ownedEntry e k) = ap (λ (o : Order). entering o (v .orders)) (same-order (v .lastStamp + 1) k e)
 
 pub cents-as-before : CentsAsBefore
 unfolding opening atStep isStep legal pick

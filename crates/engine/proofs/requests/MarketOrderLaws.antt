@@ -24,7 +24,7 @@ use Rattle.book.proofs.definitions.OrderConditionLaws.{MayRest, market-short}
 use Rattle.engine.specs.declared.Market.{Market}
 use Rattle.engine.specs.declared.Entry.{Entry}
 use Rattle.engine.specs.declared.Event.{Event}
-use Rattle.engine.specs.declared.Event.the-variants.{Entry as entry, Cancel as cancel, Bid as bid, Tape as tape, DayEnd as dayEnd}
+use Rattle.engine.specs.declared.Event.the-variants.{Entry as entry, Cancel as cancel, Bid as bid, Tape as tape, DayEnd as dayEnd, OwnedEntry as ownedEntry}
 use Rattle.engine.specs.declared.Remainder.{Remainder}
 use Rattle.engine.specs.declared.Remainder.the-variants.{Filled, Cancelled, Rests}
 use Rattle.engine.specs.declared.Move.{Move}
@@ -33,19 +33,19 @@ use Rattle.engine.specs.rules.Market.{marketAfter, restricted, permitted
 use Rattle.engine.specs.rules.Working.{limitOf, followsBid, lifeOf, workingPrice, orderOf, remainder, afterRemainder, work}
 use Rattle.engine.specs.rules.Pass.{maySlide, moveOf, afterMove, passOne, passOver}
 use Rattle.engine.specs.rules.Venue.{Venue, thePass, entering, effectOfEntry, effectOfCancel, effectOfDayEnd, effectOf}
-use Rattle.engine.specs.rules.Refusals.{refusalOfTerms, refusalOfKind, refusal}
+use Rattle.engine.specs.rules.Refusals.{refusalOfTerms, refusalOfEntry, refusal}
 use Rattle.engine.specs.rules.Run.{Step, stepUnless, step}
 use Rattle.engine.specs.rules.Layout.{venueOf, stepIn}
 use Rattle.engine.specs.steps.Steps.{moveInPass}
 use Rattle.engine.specs.claims.MarketOrders.{limitOrder, withTerms, MarketShort, Immediate, MarketOrdersWork, MarketFlagKept, runsPass, MarketShortsStay, MarketShortsStayInCalls, MovesAsBefore, EntriesAsBefore}
-use Rattle.engine.proofs.refinement.RefusalLaws.{Allowed, NotRefused, Unless, refusal-known}
+use Rattle.engine.proofs.refinement.RefusalLaws.{EntryAllowed, Allowed, NotRefused, Unless, refusal-known}
 use Rattle.engine.proofs.demand3.MarketLaws.{restricted-mark, HasPermitted}
 use Rattle.engine.proofs.demand3.SoundLaws.{SoundBook, book-distinct, book-order, passOne-sound, SoundVenue, sound-venue, market-permits, effectOf-sound}
 use Rattle.engine.proofs.demand3.WorkingKeeps.{work-all}
 
 -- how a market order works
 
-module _ (m : Market) (stamp : ℕ) (e : Entry) (z : e.price ≡ 0) where
+module _ (m : Market) (stamp k : ℕ) (e : Entry) (z : e.price ≡ 0) where
   zero-price : eqb (e .price) 0 ≡ true
   zero-price = eq-eqb (e .price) 0 z
 
@@ -58,7 +58,7 @@ module _ (m : Market) (stamp : ℕ) (e : Entry) (z : e.price ≡ 0) where
   unfolding permittedNow
   above-one l = permitted-by (m .step) (λ (x : ℕ). 1 < x) (m .bid) (λ b. absurd (omega arith)) (λ b c. omega arith) (λ b. omega arith)
 
-  follows : T (restricted m (e .mark) && ltb 0 (m .bid)) → MarketShort m stamp e
+  follows : T (restricted m (e .mark) && ltb 0 (m .bid)) → MarketShort m stamp k e
   unfolding orderOf workingPrice limitOf lifeOf followsBid pick
   follows t =
       let p = and-T (restricted m (e .mark)) (ltb 0 (m .bid)) t in
@@ -85,19 +85,19 @@ module _ (m : Market) (stamp : ℕ) (e : Entry) (z : e.price ≡ 0) where
         none-there (inl x) = absurd (T-not (restricted m (e .mark)) x r)
         none-there (inr x) = omega tests
 
-    immediate-price : (orderOf m stamp e) .price ≡ pick (eqb (e .mark) 0) highest 1
+    immediate-price : (orderOf m stamp k e) .price ≡ pick (eqb (e .mark) 0) highest 1
     unfolding orderOf workingPrice
     immediate-price = rw market-limit (by-test (λ (x : ℕ). x ≡ pick (eqb (e .mark) 0) highest 1) (restricted m (e .mark)) restricted-price (λ r. refl))
 
-    immediate-order : orderOf m stamp e ≡ limitOrder m stamp (withTerms (pick (eqb (e .mark) 0) highest 1) 1 e) false
+    immediate-order : orderOf m stamp k e ≡ limitOrder m stamp k (withTerms (pick (eqb (e .mark) 0) highest 1) 1 e) false
     unfolding orderOf workingPrice limitOf lifeOf followsBid pick
     immediate-order = simp (zero-price, T-false (restricted m (e .mark) && ltb 0 (m .bid)) n)
 
-    immediate : Immediate m stamp e
+    immediate : Immediate m stamp k e
     immediate = record { order = immediate-order; price = immediate-price }
 
 pub market-orders-work : MarketOrdersWork
-market-orders-work m stamp e z = (follows m stamp e z, immediate m stamp e z)
+market-orders-work m stamp k e z = (follows m stamp k e z, immediate m stamp k e z)
 
 -- what each turn of the pass keeps, the pass keeps
 
@@ -138,14 +138,19 @@ module _ (i : ℕ) (flag : Bool) where
   thePass-flagged : (m : Market) (v : Venue) → HasPermitted m → SoundBook (m .step) (v .lastId) (v .lastStamp) (v .orders) → All (Flagged i flag) (v .orders) → All (Flagged i flag) ((thePass m v) .orders)
   thePass-flagged m v t b f = thePass-turns m v (All (Flagged i flag)) t b (λ x os s h c k. afterMove-flagged x os s (moveInPass m x) h c k) f
 
-  effectOf-flagged : (v : Venue) (e : Event) → i ≤ v.lastId → Allowed v e → SoundVenue v → All (Flagged i flag) (v .orders) → All (Flagged i flag) ((effectOf (marketAfter e (v .market)) v e) .orders)
-  unfolding effectOf entering effectOfEntry orderOf effectOfCancel effectOfDayEnd
-  effectOf-flagged v (entry e) l a g f =
+  effectOfEntry-flagged : (v : Venue) (e : Entry) (j : ℕ) → i ≤ v.lastId → EntryAllowed v e → SoundVenue v → All (Flagged i flag) (v .orders) → All (Flagged i flag) ((effectOfEntry (v .market) v j e) .orders)
+  unfolding entering effectOfEntry orderOf
+  effectOfEntry-flagged v e j l a g f =
       work-all (Flagged i flag) (λ z q k. k) _ (v .orders) (book-distinct (g .book)) (λ z. absurd (omega (arith, a .place .newId))) f
+
+  effectOf-flagged : (v : Venue) (e : Event) → i ≤ v.lastId → Allowed v e → SoundVenue v → All (Flagged i flag) (v .orders) → All (Flagged i flag) ((effectOf (marketAfter e (v .market)) v e) .orders)
+  unfolding effectOf effectOfCancel effectOfDayEnd
+  effectOf-flagged v (entry e) l a g f = effectOfEntry-flagged v e 0 l a g f
   effectOf-flagged v (cancel j) l a g f = without-all (Flagged i flag) j (v .orders) f
   effectOf-flagged v (bid b) l a g f = thePass-flagged _ v (g .market .step, a) (g .book) f
   effectOf-flagged v (tape p) l a g f = thePass-flagged _ v (market-permits (g .market)) (g .book) f
   effectOf-flagged v (dayEnd c) l a g f = tt
+  effectOf-flagged v (ownedEntry e k) l a g f = effectOfEntry-flagged v e k l (a .0) g f
 
 -- what was found under an id rests, with that id
 found : {i : ℕ} {os : List Order} {o : Order} → find i os ≡ some o → List·Memᴰ o os × (o.id ≡ i)
@@ -231,6 +236,7 @@ effectOf-stays v (cancel i) o q z a g said h = absurd q
 effectOf-stays v (bid b) o q z a g said h = thePass-turns _ v (List·Memᴰ o) (g .market .step, a) (g .book) (turn-stays _ z (v .lastId) o said) h
 effectOf-stays v (tape p) o q z a g said h = thePass-turns _ v (List·Memᴰ o) (market-permits (g .market)) (g .book) (turn-stays _ z (v .lastId) o said) h
 effectOf-stays v (dayEnd c) o q z a g said h = absurd q
+effectOf-stays v (ownedEntry e k) o q z a g said h = absurd q
 
 stepUnless-stays : (x : Option ℕ) (v : Venue) (e : Event) (buffer : ℕ) → Unless x (NotRefused v e buffer) → T (runsPass e) → (marketAfter e (v .market)) .bid ≡ 0 → (i : ℕ) (o : Order) → find i (v .orders) ≡ some o → T (o .market) → find i ((stepUnless x v e) .venue .orders) ≡ some o
 unfolding stepUnless
@@ -257,7 +263,7 @@ unfolding moveOf maySlide
 moves-as-before m o t = rw (T-false (o .market && eqb (m .bid) 0) t, and-last (o .adjusted))
 
 pub entries-as-before : EntriesAsBefore
-unfolding refusalOfKind refusalOfTerms entering effectOfEntry orderOf workingPrice limitOf lifeOf followsBid pick
+unfolding refusalOfEntry refusalOfTerms entering effectOfEntry orderOf workingPrice limitOf lifeOf followsBid pick
 entries-as-before v e n =
     let z : eqb (e .price) 0 ≡ false = ne-eqb (e .price) 0 n in
-    record { refusal = rw z; effect = rw z }
+    record { refusal = λ ofOwner. rw z; effect = λ k. rw z }

@@ -1,4 +1,4 @@
--- No. 3: with 18, 19 and 20 read as 5, every entry is answered as before. Assumes nothing.
+-- No. 3: with 18, 19 and 20 read as 5, every event is answered as before. Assumes nothing.
 use Prim.Native.Nat.{ℕ}
 use mathlib.Core.Path.{_≡_, refl, ap, _∙_}
 use mathlib.Core.Bool.{Bool, true, false, _&&_}
@@ -10,14 +10,14 @@ use Rattle.numbers.specs.Answers.{Outcome, gives, refuses}
 use Rattle.book.specs.rules.Words.{isBook}
 use Rattle.engine.specs.declared.Entry.{Entry}
 use Rattle.engine.specs.declared.Event.{Event}
-use Rattle.engine.specs.declared.Event.the-variants.{Entry as entry}
+use Rattle.engine.specs.declared.Event.the-variants.{Entry as entry, Cancel as cancel, Bid as bid, Tape as tape, DayEnd as dayEnd, OwnedEntry as ownedEntry}
 use Rattle.engine.specs.rules.Reports.{Report}
 use Rattle.engine.specs.rules.Venue.{Venue}
-use Rattle.engine.specs.rules.Refusals.{refuseUnless, firstOf, refusalOfTerms, refusalOfCodes, refusalOfPlace, refusalOfKind, refusal}
+use Rattle.engine.specs.rules.Refusals.{refuseUnless, firstOf, refusalOfTerms, refusalOfCodes, refusalOfOwner, refusalOfPlace, refusalOfEntry, refusalOfKind, refusal}
 use Rattle.engine.specs.rules.Run.{Step, stepUnless, step}
 use Rattle.engine.specs.rules.Answers.{countOf, bufferAfter}
 use Rattle.engine.specs.rules.Layout.{venueOf, stepIn}
-use Rattle.engine.specs.claims.WhichCode.{codesBefore, entryRefusalBefore, stepBefore, readAs5, refusalRead, answerRead, CodesAsBefore, stepInBefore, CallsAsBefore}
+use Rattle.engine.specs.claims.WhichCode.{codesBefore, entryBefore, kindBefore, refusalBefore, stepBefore, readAs5, refusalRead, answerRead, CodesAsBefore, stepInBefore, CallsAsBefore}
 
 -- of the refusals
 
@@ -53,14 +53,27 @@ place-read : (v : Venue) (id : ℕ) → refusalRead (refusalOfPlace v id) ≡ re
 unfolding refusalOfPlace pick
 place-read v id = read-later _ 6 _ _ refl (read-later _ 7 none none refl refl)
 
-kind-read : (v : Venue) (e : Entry) → refusalRead (refusalOfKind v (entry e)) ≡ firstOf (refusalOfTerms (v.market.step) (e .price) (e .shares)) (firstOf (codesBefore e) (refusalOfPlace v (e .id)))
-unfolding refusalOfKind
-kind-read v e =
-    read-first (refusalOfTerms (v.market.step) (e .price) (e .shares)) _ ∙ rw (terms-read (v.market.step) (e .price) (e .shares), read-first (refusalOfCodes e) (refusalOfPlace v (e .id)), codes-read e, place-read v (e .id))
+owner-read : (k : ℕ) → refusalRead (refusalOfOwner k) ≡ refusalOfOwner k
+unfolding refusalOfOwner pick
+owner-read k = read-later _ 21 _ _ refl (read-later _ 21 none none refl refl)
 
-refusal-read : (v : Venue) (e : Entry) (n : ℕ) → refusalRead (refusal v (entry e) n) ≡ entryRefusalBefore v e n
+entry-read : (v : Venue) (e : Entry) (ofOwner : Option ℕ) → refusalRead ofOwner ≡ ofOwner → refusalRead (refusalOfEntry v e ofOwner) ≡ entryBefore v e ofOwner
+unfolding refusalOfEntry
+entry-read v e ofOwner h =
+    read-first (refusalOfTerms (v.market.step) (e .price) (e .shares)) _ ∙ rw (terms-read (v.market.step) (e .price) (e .shares), read-first (refusalOfCodes e) (firstOf ofOwner (refusalOfPlace v (e .id))), codes-read e, read-first ofOwner (refusalOfPlace v (e .id)), h, place-read v (e .id))
+
+kind-read : (v : Venue) (x : Event) → refusalRead (refusalOfKind v x) ≡ kindBefore v x
+unfolding refusalOfKind pick
+kind-read v (entry e) = entry-read v e none refl
+kind-read v (cancel i) = read-later _ 8 none none refl refl
+kind-read v (bid b) = read-later _ 3 none none refl refl
+kind-read v (tape p) = read-later _ 3 none none refl refl
+kind-read v (dayEnd c) = read-later _ 3 none none refl refl
+kind-read v (ownedEntry e k) = entry-read v e (refusalOfOwner k) (owner-read k)
+
+refusal-read : (v : Venue) (x : Event) (n : ℕ) → refusalRead (refusal v x n) ≡ refusalBefore v x n
 unfolding refusal pick
-refusal-read v e n = read-later _ 16 _ _ refl (read-later _ 1 _ _ refl (read-later _ 2 _ _ refl (kind-read v e)))
+refusal-read v x n = read-later _ 16 _ _ refl (read-later _ 1 _ _ refl (read-later _ 2 _ _ refl (kind-read v x)))
 
 -- of an event
 
@@ -76,12 +89,12 @@ venue-read (some n) v e = refl
 
 pub codes-as-before : CodesAsBefore
 unfolding step
-codes-as-before v e n =
-    let r = refusal-read v e n in
+codes-as-before v x n =
+    let r = refusal-read v x n in
     record {
       refusal = r;
-      answer = answer-read (refusal v (entry e) n) v (entry e) ∙ ap (λ (x : Option ℕ). stepUnless x v (entry e) .answer) r;
-      venue = venue-read (refusal v (entry e) n) v (entry e) ∙ ap (λ (x : Option ℕ). stepUnless x v (entry e) .venue) r;
+      answer = answer-read (refusal v x n) v x ∙ ap (λ (y : Option ℕ). stepUnless y v x .answer) r;
+      venue = venue-read (refusal v x n) v x ∙ ap (λ (y : Option ℕ). stepUnless y v x .venue) r;
     }
 
 -- of a call
@@ -95,26 +108,26 @@ buffer-read b (gives rs) = refl
 buffer-read b (refuses n) = refl
 
 -- words that are laid out as no venue are refused with 16, as before
-module _ (w : List ℕ) (e : Entry) (n : ℕ) where
+module _ (w : List ℕ) (x : Event) (n : ℕ) where
   abbrev broken : Step
   broken = record { answer = refuses 16; venue = venueOf w }
 
   abbrev SameStep : Step → Step → Type 0
   SameStep s t = record { answer : answerRead (s .answer) ≡ t .answer; venue : s.venue ≡ t.venue }
 
-  chosen : (laid : Bool) → SameStep (pick laid (step (venueOf w) (entry e) n) broken) (pick laid (stepBefore (venueOf w) e n) broken)
+  chosen : (laid : Bool) → SameStep (pick laid (step (venueOf w) x n) broken) (pick laid (stepBefore (venueOf w) x n) broken)
   unfolding pick
-  chosen true = let x = codes-as-before (venueOf w) e n in record { answer = x .answer; venue = x .venue }
+  chosen true = let y = codes-as-before (venueOf w) x n in record { answer = y .answer; venue = y .venue }
   chosen false = record { answer = refl; venue = refl }
 
-  called : SameStep (stepIn w (entry e) n) (stepInBefore w e n)
+  called : SameStep (stepIn w x n) (stepInBefore w x n)
   unfolding stepIn
   called = chosen (isBook w)
 
 pub calls-as-before : CallsAsBefore
-calls-as-before w e b answer w′ b′ a =
-    let x = stepIn w (entry e) (length b) .answer in
-    let r = called w e (length b) in
+calls-as-before w x b answer w′ b′ a =
+    let x = stepIn w x (length b) .answer in
+    let r = called w x (length b) in
     record {
       answers = ap answerRead (a .answers) ∙ count-read x ∙ ap countOf (r .answer);
       buffer = a .buffer ∙ buffer-read b x ∙ ap (bufferAfter b) (r .answer);

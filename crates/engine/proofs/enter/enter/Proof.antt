@@ -15,13 +15,13 @@ write-accepted-requires : tie.Need-write-accepted-requires
 write-accepted-requires c κs =
     let s = c .before .before .before .before .before in
     let o = c .before .next-order in
-    entry-room (s .args .w .now) (s .args .e) (o .result) (o .ensures) (s .args .reports .now) (s .pre .1)
+    entry-room (s .args .w .now) (s .args .e) (s .args .owner) (o .result) (o .ensures) (s .args .reports .now) (s .pre .1)
 
 work-requires : tie.Need-work-requires
 work-requires c κs =
     let s = c .before .before .before .before .before .before .before .before .before .before in
     let o = c .before .before .before .before .before .before .next-order in
-    (entry-enters (s .args .w .now) (s .args .e) (o .result) (o .ensures) (s .pre .0 .0) (s .pre .0 .1) (s .pre .0 .2), work-room (s .args .w .now) (s .args .e) (o .result) (o .ensures) (s .pre .1) (c .before .before .before .before .write-accepted .ensures))
+    (entry-enters (s .args .w .now) (s .args .e) (s .args .owner) (o .result) (o .ensures) (s .pre .0 .0) (s .pre .0 .1) (s .pre .0 .2), work-room (s .args .w .now) (s .args .e) (s .args .owner) (o .result) (o .ensures) (s .pre .1) (c .before .before .before .before .write-accepted .ensures))
 
 finish-requires : tie.Need-finish-requires
 finish-requires c κs =
@@ -39,7 +39,7 @@ returns : tie.Need-returns
 returns c =
     let s = c .before .before .before .before .before .before .before .before .before .before .before .before .before .before .before .before .before .before .before in
     let o = c .before .before .before .before .before .before .before .before .before .before .before .before .before .before .before .next-order in
-    entry-done (s .args .w .now) (s .args .e) (o .result) (o .ensures) (s .pre .0 .0 .ordered) (s .pre .1) (c .before .before .before .before .before .before .before .before .before .before .before .before .before .write-accepted .ensures) (c .before .before .before .before .before .before .before .before .work .ensures) (c .before .before .finish .ensures)
+    entry-done (s .args .w .now) (s .args .e) (s .args .owner) (o .result) (o .ensures) (s .pre .0 .0 .ordered) (s .pre .1) (c .before .before .before .before .before .before .before .before .before .before .before .before .before .write-accepted .ensures) (c .before .before .before .before .before .before .before .before .work .ensures) (c .before .before .finish .ensures)
 
 pub enter-spec : {M : Type 1} → statement M
 enter-spec =

@@ -28,8 +28,8 @@ order-of-requires c κs = subst (λ (m : Market). T (isBid (m .step) (m .bid))) 
 returns : tie.Need-returns
 unfolding venueOf
 returns c =
-    let e = c .before .before .before .before .args .e in
-    c .order-of .ensures ∙ ap₂ (λ m s. orderOf m s e) (c .before .market .ensures) (ap (λ n. n + 1) (c .before .before .header-word .ensures))
+    let a = c .before .before .before .before .args in
+    c .order-of .ensures ∙ ap₂ (λ m s. orderOf m s (a .owner) (a .e)) (c .before .market .ensures) (ap (λ n. n + 1) (c .before .before .header-word .ensures))
 
 pub next-order-spec : {M : Type 1} → statement M
 next-order-spec = tie.close (tie.spec header-word-requires add-stamp market-requires order-of-requires returns)

@@ -21,7 +21,7 @@ returns : tie.Need-returns
 unfolding askedOrder
 returns c =
     let a = c .before .before .before .args in
-    c .order-of .ensures ∙ ap (λ m. orderOf m 0 (askedEntry (a .mark) (a .price) (a .shares))) (c .before .market .ensures)
+    c .order-of .ensures ∙ ap (λ m. orderOf m 0 0 (askedEntry (a .mark) (a .price) (a .shares))) (c .before .market .ensures)
 
 pub asked-order-spec : {M : Type 1} → statement M
 asked-order-spec = tie.close (tie.spec market-requires order-of-requires returns)
