@@ -33,7 +33,7 @@ played =
     record { theDay = refl; clearStays = refl; hiddenMoves = refl; slidingMatches = refl; newStamp = refl; notClear = refl; onceOnly = refl; marketDay = refl; limitOne = refl; bidOfOne = refl; onceKept = refl; halfCentDay = refl; fallingDays = (refl, (refl, tt)); secondFall = refl }
 
 pub codes-in-order : CodesInOrder
-unfolding Tests.pick Tests.every Prices.isStep Prices.legal Prices.isBid order-conditions.idsRise order-conditions.stampsDiffer Venue.opened Sound.sound Refusals.refuseUnless Refusals.firstOf Refusals.refusalOfTerms Refusals.refusalOfCodes Refusals.refusalOfPlace Refusals.refusalOfKind Refusals.refusal Run.stepUnless Run.step Run.run
+unfolding Tests.pick Tests.every Prices.isStep Prices.legal Prices.isBid order-conditions.idsRise order-conditions.stampsDiffer Venue.opened Sound.sound Refusals.refuseUnless Refusals.firstOf Refusals.refusalOfTerms Refusals.refusalOfCodes Refusals.refusalOfPlace Refusals.refusalOfEntry Refusals.refusalOfKind Refusals.refusal Run.stepUnless Run.step Run.run
 codes-in-order = (refl, (refl, tt))
 
 pub fills-told : FillsTold

@@ -11,6 +11,7 @@ use Rattle.prices.specs.Prices.{isBid}
 use Rattle.book.specs.declared.Order.{Order}
 use Rattle.book.specs.rules.Words.{resting}
 use Rattle.engine.specs.declared.Entry.{Entry}
+use Rattle.engine.specs.declared.Event.the-variants.{OwnedEntry as ownedEntry}
 use Rattle.engine.specs.declared.Market.{Market}
 use Rattle.engine.specs.rules.Market.{marketAfter}
 use Rattle.engine.specs.rules.Reports.{Report, accepted}
@@ -48,6 +49,11 @@ by-effect e (suc k) m v = refl
 by-last : (e : Entry) (k : ℕ) (v : Venue) → lastIdAfter v (entryBy e k) ≡ e.id
 by-last e zero v = refl
 by-last e (suc k) v = refl
+
+-- one with an owner above 0 is of kind 6
+pub by-owned : (e : Entry) (k : ℕ) → 1 ≤ k → entryBy e k ≡ ownedEntry e k
+by-owned e zero h = absurd (omega arith)
+by-owned e (suc k) h = refl
 
 module _ (w : List ℕ) (e : Entry) (k : ℕ) (o : Order) (q : o ≡ orderOf (venueOf w .market) (venueOf w .lastStamp + 1) k e) where
   by-owner : effectIn w (entryBy e k) ≡ effectOfEntry (venueOf w .market) (venueOf w) k e

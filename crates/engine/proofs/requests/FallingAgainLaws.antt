@@ -20,7 +20,7 @@ use Rattle.prices.proofs.RestrictionLaws.{off-in-0, on-in-1, on-in-2}
 use Rattle.prices.proofs.FallingAgainLaws.{same-day-stays, no-fall-stays, falls, day-ends, falling-again}
 use Rattle.book.specs.declared.Order.{Order}
 use Rattle.book.specs.rules.Orders.{find}
-use Rattle.book.specs.rules.Matching.{Execution, matching}
+use Rattle.book.specs.rules.Matching.{Happening, traded, withdrawn, matching}
 use Rattle.book.specs.rules.Words.{isBook}
 use Rattle.engine.specs.declared.Market.{Market}
 use Rattle.engine.specs.declared.Event.{Event}
@@ -31,7 +31,7 @@ use Rattle.engine.specs.declared.Move.{Move}
 use Rattle.engine.specs.declared.Move.the-variants.{Stay, Cancel, Reprice}
 use Rattle.engine.specs.rules.Market.{marketAfter, permittedNow}
 use Rattle.engine.specs.rules.Reports.{Report, accepted, executed, cancelled, repriced, restrictionStarts, dayEnded}
-use Rattle.engine.specs.rules.Working.{remainder, afterRemainder, work}
+use Rattle.engine.specs.rules.Working.{remainder, afterRemainder, happened, work}
 use Rattle.engine.specs.rules.Pass.{afterMove, passOne, passOver}
 use Rattle.engine.specs.rules.Venue.{Venue, opened, entering, effectOfEntry, effectOfCancel, thePass, restrictionReport, cancelledAtEnd, effectOfDayEnd, effectOf}
 use Rattle.engine.specs.rules.Sound.{mostEvents, sound}
@@ -137,9 +137,10 @@ phase-append (repriced i p s ∷ xs) ys = phase-append xs ys
 phase-append (restrictionStarts ∷ xs) ys = ap (λ (rs : List Report). restrictionStarts ∷ rs) (phase-append xs ys)
 phase-append (dayEnded k ∷ xs) ys = ap (λ (rs : List Report). dayEnded k ∷ rs) (phase-append xs ys)
 
-executions-no-phase : (xs : List Execution) → phaseReports (map executed xs) ≡ []
-executions-no-phase [] = refl
-executions-no-phase (x ∷ xs) = executions-no-phase xs
+happenings-no-phase : (xs : List Happening) → phaseReports (map happened xs) ≡ []
+happenings-no-phase [] = refl
+happenings-no-phase (traded x ∷ xs) = happenings-no-phase xs
+happenings-no-phase (withdrawn i q ∷ xs) = happenings-no-phase xs
 
 remainder-no-phase : (r : Remainder) (o : Order) (os : List Order) → phaseReports ((afterRemainder r o os) .reports) ≡ []
 unfolding afterRemainder
@@ -150,7 +151,7 @@ remainder-no-phase Rests o os = refl
 work-no-phase : (o : Order) (os : List Order) → phaseReports ((work o os) .reports) ≡ []
 unfolding work
 work-no-phase o os =
-    phase-append (map executed (matching o os .executions)) _ ∙ rw (executions-no-phase (matching o os .executions)) (remainder-no-phase (remainder (matching o os .left)) (matching o os .left) (matching o os .orders))
+    phase-append (map happened (matching o os .happenings)) _ ∙ rw (happenings-no-phase (matching o os .happenings)) (remainder-no-phase (remainder (matching o os .left)) (matching o os .left) (matching o os .orders))
 
 move-no-phase : (y : Move) (o : Order) (os : List Order) (s : ℕ) → phaseReports ((afterMove y o os s) .reports) ≡ []
 unfolding afterMove

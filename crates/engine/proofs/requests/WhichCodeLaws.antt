@@ -126,10 +126,10 @@ module _ (w : List ℕ) (x : Event) (n : ℕ) where
 
 pub calls-as-before : CallsAsBefore
 calls-as-before w x b answer w′ b′ a =
-    let x = stepIn w x (length b) .answer in
+    let y = stepIn w x (length b) .answer in
     let r = called w x (length b) in
     record {
-      answers = ap answerRead (a .answers) ∙ count-read x ∙ ap countOf (r .answer);
-      buffer = a .buffer ∙ buffer-read b x ∙ ap (bufferAfter b) (r .answer);
+      answers = ap answerRead (a .answers) ∙ count-read y ∙ ap countOf (r .answer);
+      buffer = a .buffer ∙ buffer-read b y ∙ ap (bufferAfter b) (r .answer);
       venue = a .venue ∙ r .venue;
     }

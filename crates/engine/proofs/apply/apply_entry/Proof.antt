@@ -2,6 +2,7 @@
 use native.Mathlib.Omega.{arith}
 use mathlib.Core.Path.{sym, ap, _∙_}
 use Rattle.engine.specs.declared.Event.the-variants.{Entry as entry}
+use Rattle.engine.specs.rules.Refusals.{refusalOfKind}
 use Rattle.engine.specs.rules.Answers.{refusedWith}
 use Rattle.engine.specs.rules.Layout.{venueOf}
 use Rattle.engine.proofs.refinement.RefuseLaws.{words-stepped}
@@ -20,7 +21,7 @@ enum-told : tie.Need-enum-told
 enum-told c = search needs
 
 enter-requires : tie.Need-enter-requires
-unfolding venueOf
+unfolding refusalOfKind venueOf
 enter-requires c κs =
     let r = c .before .before .before .before in
     let s = r .before .before .before .before in
@@ -33,6 +34,7 @@ same-length : tie.Need-same-length
 same-length c = search needs
 
 returns : tie.Need-returns
+unfolding refusalOfKind
 returns c =
     let r = c .before .before .before in
     let s = r .before .before .before .before in
@@ -45,6 +47,7 @@ same-length-3 : tie.Need-same-length-3
 same-length-3 c = search needs
 
 returns-2 : tie.Need-returns-2
+unfolding refusalOfKind
 returns-2 c =
     let t = c .before .before .before .before .before .before .before in
     let r = t .before .before in

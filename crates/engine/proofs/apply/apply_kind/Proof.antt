@@ -35,6 +35,12 @@ enum-known-event-5 c = search needs
 apply-day-end-requires : tie.Need-apply-day-end-requires
 apply-day-end-requires c κs = search needs
 
+enum-known-event-6 : tie.Need-enum-known-event-6
+enum-known-event-6 c = search needs
+
+apply-owned-entry-requires : tie.Need-apply-owned-entry-requires
+apply-owned-entry-requires c κs = search needs
+
 same-length : tie.Need-same-length
 same-length c = search needs
 
@@ -80,6 +86,15 @@ same-length-10 c = search needs
 returns-5 : tie.Need-returns-5
 returns-5 c = applied-as (sym (c .before .before .before .before .before .before .before .before .event5 .given .1)) (c .before .before .before .before .apply-day-end .ensures)
 
+same-length-11 : tie.Need-same-length-11
+same-length-11 c = search needs
+
+same-length-12 : tie.Need-same-length-12
+same-length-12 c = search needs
+
+returns-6 : tie.Need-returns-6
+returns-6 c = applied-as (sym (c .before .before .before .before .before .before .before .before .event6 .given .1)) (c .before .before .before .before .apply-owned-entry .ensures)
+
 pub apply-kind-spec : {M : Type 1} → statement M
 apply-kind-spec =
     tie.close
@@ -94,6 +109,8 @@ apply-kind-spec =
     apply-tape-requires
     enum-known-event-5
     apply-day-end-requires
+    enum-known-event-6
+    apply-owned-entry-requires
     same-length
     same-length-2
     returns
@@ -108,4 +125,7 @@ apply-kind-spec =
     returns-4
     same-length-9
     same-length-10
-    returns-5)
+    returns-5
+    same-length-11
+    same-length-12
+    returns-6)

@@ -1,8 +1,8 @@
--- `entry_refusal` by its three parts, in their order. Assumes nothing.
+-- `entry_refusal` by its parts, in their order. Assumes nothing.
 use mathlib.Core.Path.{_≡_, sym, ap, _∙_}
 use mathlib.Core.Option.{none}
 use Rattle.engine.specs.declared.Entry.{Entry}
-use Rattle.engine.specs.rules.Refusals.{refusalOfTerms, refusalOfCodes, refusalOfKind}
+use Rattle.engine.specs.rules.Refusals.{refusalOfTerms, refusalOfCodes, refusalOfEntry}
 use Rattle.engine.specs.rules.Layout.{venueOf}
 use Rattle.engine.specs.rules.Answers.{refusedWith}
 use Rattle.engine.proofs.refinement.RefuseLaws.{first-given, first-none}
@@ -28,6 +28,12 @@ enum-known-refusal-2 c = search needs
 enum-told-2 : tie.Need-enum-told-2
 enum-told-2 c = search needs
 
+enum-known-of-owner : tie.Need-enum-known-of-owner
+enum-known-of-owner c = search needs
+
+enum-told-3 : tie.Need-enum-told-3
+enum-told-3 c = search needs
+
 place-refusal-requires : tie.Need-place-refusal-requires
 place-refusal-requires c κs = search needs
 
@@ -43,20 +49,26 @@ codes : (c : tie.After-enum-told2) → refusalOfCodes (lent (c .before .before .
 codes c = sym (c .before .before .codes-refusal .ensures) ∙ ap refusedWith (c .enum-told2 .given .1)
 
 returns : tie.Need-returns
-unfolding refusalOfKind
+unfolding refusalOfEntry
 returns c = sym (first-given _ (sym (c .before .before .before .terms-refusal .ensures) ∙ ap refusedWith (c .before .refusal .given .1)))
 
 returns-2 : tie.Need-returns-2
-unfolding refusalOfKind
+unfolding refusalOfEntry
 returns-2 c =
     let s = c .before .before .before in
     sym (first-none _ (terms (s .before)) ∙ first-given _ (sym (s .codes-refusal .ensures) ∙ ap refusedWith (c .before .refusal2 .given .1)))
 
 returns-3 : tie.Need-returns-3
-unfolding refusalOfKind
+unfolding refusalOfEntry
 returns-3 c =
-    let s = c .before in
-    sym (first-none _ (terms (s .before .before .before)) ∙ first-none _ (codes s) ∙ sym (c .place-refusal .ensures))
+    let s = c .before .before .before in
+    sym (first-none _ (terms (s .before .before .before)) ∙ first-none _ (codes s) ∙ first-given _ (ap refusedWith (c .before .of-owner .given .1)))
+
+returns-4 : tie.Need-returns-4
+unfolding refusalOfEntry
+returns-4 c =
+    let s = c .before .before .before in
+    sym (first-none _ (terms (s .before .before .before)) ∙ first-none _ (codes s) ∙ first-none _ (ap refusedWith (c .before .enum-told3 .given .1)) ∙ sym (c .place-refusal .ensures))
 
 pub entry-refusal-spec : {M : Type 1} → statement M
 entry-refusal-spec =
@@ -68,7 +80,10 @@ entry-refusal-spec =
     codes-refusal-requires
     enum-known-refusal-2
     enum-told-2
+    enum-known-of-owner
+    enum-told-3
     place-refusal-requires
     returns
     returns-2
-    returns-3)
+    returns-3
+    returns-4)
