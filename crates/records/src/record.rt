@@ -12,11 +12,11 @@ use numbers::read;
 use numbers::write;
 ghost use mathlib.Core.Path.{_≡_};
 ghost use mathlib.Core.List.{[], _∷_};
-ghost use Prim.Native.Nat.{_<_};
+ghost use Prim.Native.Nat.{_≤_, _<_};
 ghost use lib.ListN.{length};
 ghost use Rattle.numbers.specs.SevenBit.{bytesOfAll, Written, outcomeOfWrite};
-ghost use Rattle.engine.specs.declared.Event.the-variants.{Entry as entry};
-ghost use Rattle.engine.specs.rules.Records.{recordBytes, fieldsAt, byCount, recordFields, eventOf, readAs, recordAt};
+ghost use Rattle.engine.specs.declared.Event.the-variants.{Entry as entry, OwnedEntry as ownedEntry};
+ghost use Rattle.engine.specs.rules.Records.{recordBytes, fieldsAt, byCount, recordFields, entryFrom, eventOf, readAs, recordAt};
 ghost use Rattle.records.specs.RecordAnswers.{eventFrom, readRefusalNumber, outcomeOfField, outcomeOfFields, outcomeOfRecordRead, outcomeOfRecordWrite};
 
 // The highest value of a field.
@@ -62,7 +62,7 @@ fn read_fields(bytes: &[u8], at: usize, fields: &mut [u32]) -> FieldsRead
 
 // The event of a kind of one field.
 fn single_event(kind: u64, field: u32) -> Event
-    requires { ⌜ 1 < kind ⌝ }
+    requires { ⌜ (1 < kind) × (kind < 6) ⌝ }
     ensures { λ r. ⌜ r ≡ eventOf (record { kind = kind; fields = field ∷ [] }) ⌝ }
 {
     if kind == 2 {
@@ -79,7 +79,7 @@ fn single_event(kind: u64, field: u32) -> Event
 
 // The event of such a kind whose field stands at an offset.
 fn read_single(bytes: &[u8], at: usize, kind: u64) -> RecordRead
-    requires { ⌜ 1 < kind ⌝ }
+    requires { ⌜ (1 < kind) × (kind < 6) ⌝ }
     ensures { λ r. ⌜ outcomeOfRecordRead r ≡ eventFrom kind (fieldsAt 1 (now (bytes .entry)) at) ⌝ }
 {
     match read_field(bytes, at) {
@@ -91,6 +91,22 @@ fn read_single(bytes: &[u8], at: usize, kind: u64) -> RecordRead
     }
 }
 
+// The entry of its fields.
+fn entry_of(x: &[u32]) -> Entry
+    requires { ⌜ 7 ≤ length (now x) ⌝ }
+    ensures { λ r. ⌜ r ≡ entryFrom (now (x .entry)) ⌝ }
+{
+    Entry {
+        id: x[0],
+        mark: x[1],
+        price: x[2],
+        shares: x[3],
+        show: x[4],
+        life: x[5],
+        slide: x[6],
+    }
+}
+
 // The entry whose fields stand from an offset on.
 fn read_entry(bytes: &[u8], at: usize) -> RecordRead
     ensures { λ r. ⌜ outcomeOfRecordRead r ≡ eventFrom 1 (fieldsAt 7 (now (bytes .entry)) at) ⌝ }
@@ -98,21 +114,24 @@ fn read_entry(bytes: &[u8], at: usize) -> RecordRead
     let mut x: [u32; 7] = [0; 7];
     match read_fields(bytes, at, &mut x) {
         FieldsRead::Refused(refusal) => RecordRead::Refused(refusal),
-        FieldsRead::End(end) => {
-            let entry = Entry {
-                id: x[0],
-                mark: x[1],
-                price: x[2],
-                shares: x[3],
-                show: x[4],
-                life: x[5],
-                slide: x[6],
-            };
-            RecordRead::Record {
-                event: Event::Entry(entry),
-                end,
-            }
-        }
+        FieldsRead::End(end) => RecordRead::Record {
+            event: Event::Entry(entry_of(&x)),
+            end,
+        },
+    }
+}
+
+// The same with its owner behind them.
+fn read_owned_entry(bytes: &[u8], at: usize) -> RecordRead
+    ensures { λ r. ⌜ outcomeOfRecordRead r ≡ eventFrom 6 (fieldsAt 8 (now (bytes .entry)) at) ⌝ }
+{
+    let mut x: [u32; 8] = [0; 8];
+    match read_fields(bytes, at, &mut x) {
+        FieldsRead::Refused(refusal) => RecordRead::Refused(refusal),
+        FieldsRead::End(end) => RecordRead::Record {
+            event: Event::OwnedEntry(entry_of(&x), x[7]),
+            end,
+        },
     }
 }
 
@@ -122,6 +141,9 @@ fn read_event(bytes: &[u8], at: usize, kind: u64) -> RecordRead
 {
     if kind == 1 {
         return read_entry(bytes, at);
+    }
+    if kind == 6 {
+        return read_owned_entry(bytes, at);
     }
     if kind < 2 {
         return RecordRead::Refused(ReadRefusal::UnknownKind);
@@ -170,6 +192,24 @@ fn write_entry(bytes: &mut [u8], at: usize, e: Entry) -> RecordWrite
     record_answer(write::write_numbers(bytes, at, &numbers))
 }
 
+// Writes the record of an entry with its owner.
+fn write_owned_entry(bytes: &mut [u8], at: usize, e: Entry, owner: u32) -> RecordWrite
+    ensures { λ r. ⌜ Written (recordBytes (ownedEntry e owner)) at (now (bytes .entry)) (outcomeOfRecordWrite r) (now (bytes .exit)) ⌝ }
+{
+    let numbers = [
+        6,
+        e.id as u64,
+        e.mark as u64,
+        e.price as u64,
+        e.shares as u64,
+        e.show as u64,
+        e.life as u64,
+        e.slide as u64,
+        owner as u64,
+    ];
+    record_answer(write::write_numbers(bytes, at, &numbers))
+}
+
 // Writes the record of a kind of one field.
 fn write_single(bytes: &mut [u8], at: usize, kind: u64, field: u32) -> RecordWrite
     ensures { λ r. ⌜ Written (bytesOfAll (kind ∷ field ∷ [])) at (now (bytes .entry)) (outcomeOfRecordWrite r) (now (bytes .exit)) ⌝ }
@@ -188,6 +228,7 @@ pub fn write_record(bytes: &mut [u8], at: usize, event: Event) -> RecordWrite
         Event::Bid(price) => write_single(bytes, at, 3, price),
         Event::Tape(price) => write_single(bytes, at, 4, price),
         Event::DayEnd(close) => write_single(bytes, at, 5, close),
+        Event::OwnedEntry(e, owner) => write_owned_entry(bytes, at, e, owner),
     }
 }
 

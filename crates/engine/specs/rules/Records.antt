@@ -92,11 +92,17 @@ unfoldable pub reportFields : ℕ → Option ℕ
 reportFields k =
     pick (eqb k 1) (some 3) (pick (eqb k 2) (some 4) (pick (eqb k 3) (some 3) (pick (eqb k 4) (some 3) (pick (eqb k 5) (some 0) (pick (eqb k 6) (some 1) none)))))
 
+-- the entry whose fields these are
+abbrev pub entryFrom : List ℕ → Entry
+entryFrom xs =
+    let x : ℕ → ℕ = λ i. getD xs i 0 in
+    record { id = x 0; mark = x 1; price = x 2; shares = x 3; show = x 4; life = x 5; slide = x 6 }
+
 -- the event of a record, the report of a form
 unfoldable pub eventOf : Form → Event
 eventOf f =
     let x : ℕ → ℕ = λ i. getD (f .fields) i 0 in
-    let e : Entry = record { id = x 0; mark = x 1; price = x 2; shares = x 3; show = x 4; life = x 5; slide = x 6 } in
+    let e : Entry = entryFrom (f .fields) in
     pick (eqb (f .kind) 1) (entry e) (pick (eqb (f .kind) 6) (ownedEntry e (x 7)) (pick (eqb (f .kind) 2) (cancel (x 0)) (pick (eqb (f .kind) 3) (bid (x 0)) (pick (eqb (f .kind) 4) (tape (x 0)) (dayEnd (x 0))))))
 
 unfoldable pub reportOf : Form → Report

@@ -19,33 +19,23 @@ enum-known-refusal c = search needs
 enum-known-end : tie.Need-enum-known-end
 enum-known-end c = search needs
 
-array-read-t13 : tie.Need-array-read-t13
-array-read-t13 c = search needs
+slice-aggregate-entry-of : tie.Need-slice-aggregate-entry-of
+slice-aggregate-entry-of c = search needs
 
-array-read-t16 : tie.Need-array-read-t16
-array-read-t16 c = search needs
-
-array-read-t19 : tie.Need-array-read-t19
-array-read-t19 c = search needs
-
-array-read-t22 : tie.Need-array-read-t22
-array-read-t22 c = search needs
-
-array-read-t25 : tie.Need-array-read-t25
-array-read-t25 c = search needs
-
-array-read-t28 : tie.Need-array-read-t28
-array-read-t28 c = search needs
-
-array-read-t31 : tie.Need-array-read-t31
-array-read-t31 c = search needs
+entry-of-requires : tie.Need-entry-of-requires
+entry-of-requires c κs = search needs
 
 returns : tie.Need-returns
-returns c = ap (eventFrom 1) (sym (ap (λ z. outcomeOfFields z (c .before .before .before .before .read-fields .last .1 .1 .0)) (c .before .refusal .given .1)) ∙ c .before .before .before .before .read-fields .ensures)
+returns c =
+    let f = c .before .before .before .before .read-fields in
+    ap (eventFrom 1) (sym (ap (λ z. outcomeOfFields z (f .last .1 .1 .0)) (c .before .refusal .given .1)) ∙ f .ensures)
 
 returns-2 : tie.Need-returns-2
 unfolding eventOf pick
-returns-2 c = ap (eventFrom 1) (sym (ap (λ z. outcomeOfFields z (c .before .before .before .before .read-fields .last .1 .1 .0)) (c .before .end .given .1)) ∙ c .before .before .before .before .read-fields .ensures)
+returns-2 c =
+    let e = c .before .before .before in
+    let f = e .before .before .before .read-fields in
+    rw (c .entry-of .ensures) (ap (eventFrom 1) (sym (ap (λ z. outcomeOfFields z (f .last .1 .1 .0)) (e .end .given .1)) ∙ f .ensures))
 
 pub read-entry-spec : {M : Type 1} → statement M
 read-entry-spec =
@@ -55,12 +45,7 @@ read-entry-spec =
     read-fields-requires
     enum-known-refusal
     enum-known-end
-    array-read-t13
-    array-read-t16
-    array-read-t19
-    array-read-t22
-    array-read-t25
-    array-read-t28
-    array-read-t31
+    slice-aggregate-entry-of
+    entry-of-requires
     returns
     returns-2)

@@ -34,6 +34,12 @@ enum-known-event-5 c = search needs
 write-single-requires-4 : tie.Need-write-single-requires-4
 write-single-requires-4 c κs = search needs
 
+enum-known-event-6 : tie.Need-enum-known-event-6
+enum-known-event-6 c = search needs
+
+write-owned-entry-requires : tie.Need-write-owned-entry-requires
+write-owned-entry-requires c κs = search needs
+
 same-length : tie.Need-same-length
 same-length c = search needs
 
@@ -69,6 +75,13 @@ returns-5 : tie.Need-returns-5
 unfolding recordBytes
 returns-5 c = rw (c .before .before .before .before .before .event5 .given .1) (c .before .before .write-single4 .ensures)
 
+same-length-6 : tie.Need-same-length-6
+same-length-6 c = search needs
+
+returns-6 : tie.Need-returns-6
+unfolding recordBytes
+returns-6 c = rw (c .before .before .before .before .before .event6 .given .1) (c .before .before .write-owned-entry .ensures)
+
 pub write-record-spec : {M : Type 1} → statement M
 write-record-spec =
     tie.close
@@ -83,6 +96,8 @@ write-record-spec =
     write-single-requires-3
     enum-known-event-5
     write-single-requires-4
+    enum-known-event-6
+    write-owned-entry-requires
     same-length
     returns
     same-length-2
@@ -92,4 +107,6 @@ write-record-spec =
     same-length-4
     returns-4
     same-length-5
-    returns-5)
+    returns-5
+    same-length-6
+    returns-6)
