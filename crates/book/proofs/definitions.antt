@@ -7,4 +7,5 @@ pub mod CounterpartyLaws
 pub mod PriorityLaws
 pub mod MeetingLaws
 pub mod MatchingLaws
+pub mod OnlyTradingLaws
 pub mod FillLaws

@@ -5,3 +5,4 @@ pub mod HalfCentLaws
 pub mod WhichCodeLaws
 pub mod FillLaws
 pub mod FallingAgainLaws
+pub mod OwnerLaws

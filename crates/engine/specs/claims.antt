@@ -10,3 +10,4 @@ pub mod HalfCents
 pub mod WhichCode
 pub mod Fill
 pub mod FallingAgain
+pub mod Owners

@@ -189,7 +189,7 @@ matching-ends w os d = upTo-ends (length os) w os d (inr (omega arith))
 abbrev unmatched : Order → List Order → Matched
 unmatched w os = record { happenings = []; left = w; orders = os }
 
-abbrev onceMore : Happening → Matched → Matched
+abbrev pub onceMore : Happening → Matched → Matched
 onceMore x m = record { happenings = x ∷ m.happenings; left = m.left; orders = m.orders }
 
 none-within : (w o : Order) (os : List Order) → Distinct os → Within zero w os → Reached w os (some o) → ⊥

@@ -158,7 +158,7 @@ afterRemainder-keeps m n Rests w os c h i =
       uncrossed = record { border = borderWith w (i .uncrossed .border); separated = insert-separated w os (i .uncrossed .border) h (i .uncrossed .separated) };
     }
 
-afterRemainder-all : (P : Order → Type 0) (x : Remainder) (w : Order) (os : List Order) → P w → All P os → All P ((afterRemainder x w os) .orders)
+pub afterRemainder-all : (P : Order → Type 0) (x : Remainder) (w : Order) (os : List Order) → P w → All P os → All P ((afterRemainder x w os) .orders)
 unfolding afterRemainder
 afterRemainder-all P Filled w os p h = h
 afterRemainder-all P (Cancelled cause) w os p h = h

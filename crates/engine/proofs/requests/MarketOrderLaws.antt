@@ -42,6 +42,7 @@ use Rattle.engine.proofs.refinement.RefusalLaws.{EntryAllowed, Allowed,
 use Rattle.engine.proofs.demand3.MarketLaws.{restricted-mark, HasPermitted}
 use Rattle.engine.proofs.demand3.SoundLaws.{SoundBook, book-distinct, book-order, passOne-sound, SoundVenue, sound-venue, market-permits, effectOf-sound}
 use Rattle.engine.proofs.demand3.WorkingKeeps.{work-all}
+use Rattle.engine.proofs.requests.PassLaws.{KeptByTurn, thePass-turns, thePass-all}
 
 -- how a market order works
 
@@ -99,27 +100,6 @@ module _ (m : Market) (stamp k : ℕ) (e : Entry) (z : e.price ≡ 0) where
 pub market-orders-work : MarketOrdersWork
 market-orders-work m stamp k e z = (follows m stamp k e z, immediate m stamp k e z)
 
--- what each turn of the pass keeps, the pass keeps
-
-module _ (m : Market) (n : ℕ) (I : List Order → Type 0) where
-  abbrev KeptByTurn : Type 0
-  KeptByTurn = (x : Order) (os : List Order) (s : ℕ) → List·Memᴰ x os → SoundBook (m .step) n s os → I os → I ((afterMove (moveInPass m x) x os s) .orders)
-
-  passOver-turns : HasPermitted m → KeptByTurn → (is : List ℕ) (os : List Order) (s : ℕ) → SoundBook (m .step) n s os → I os → I ((passOver m is os s) .orders)
-  unfolding passOver passOne
-  passOver-turns t k [] os s b h = h
-  passOver-turns t k (i ∷ is) os s b h =
-      let f = find-found i os in
-      passOver-turns t k is _ _ (passOne-sound m t n i (find i os) os s f b .0) (turn (find i os) f)
-    where
-      turn : (x : Option Order) → Found i os x → I ((passOne m x os s) .orders)
-      turn none f = h
-      turn (some x) f = k x os s (f .0) b h
-
-thePass-turns : (m : Market) (v : Venue) (I : List Order → Type 0) → HasPermitted m → SoundBook (m .step) (v .lastId) (v .lastStamp) (v .orders) → KeptByTurn m (v .lastId) I → I (v .orders) → I ((thePass m v) .orders)
-unfolding thePass
-thePass-turns m v I t b k h = passOver-turns m (v .lastId) I t k (map idOf (v .orders)) (v .orders) (v .lastStamp) b h
-
 -- the flag is kept
 
 -- the orders with the id i have this flag
@@ -127,16 +107,8 @@ abbrev Flagged : ℕ → Bool → Order → Type 0
 Flagged i flag x = x.id ≡ i → x.market ≡ flag
 
 module _ (i : ℕ) (flag : Bool) where
-  afterMove-flagged : {step n : ℕ} (x : Order) (os : List Order) (s : ℕ) (y : Move) → List·Memᴰ x os → SoundBook step n s os → All (Flagged i flag) os → All (Flagged i flag) ((afterMove y x os s) .orders)
-  unfolding afterMove
-  afterMove-flagged x os s Stay h b f = f
-  afterMove-flagged x os s Cancel h b f = without-all (Flagged i flag) (x .id) os f
-  afterMove-flagged x os s (Reprice p used) h b f =
-      let d : Distinct os = book-distinct b in
-      work-all (Flagged i flag) (λ z q k. k) _ (without (x .id) os) (without-differ idOf (x .id) os d) (taken-all (Flagged i flag) (mem-taken h d) f .0) (without-all (Flagged i flag) (x .id) os f)
-
   thePass-flagged : (m : Market) (v : Venue) → HasPermitted m → SoundBook (m .step) (v .lastId) (v .lastStamp) (v .orders) → All (Flagged i flag) (v .orders) → All (Flagged i flag) ((thePass m v) .orders)
-  thePass-flagged m v t b f = thePass-turns m v (All (Flagged i flag)) t b (λ x os s h c k. afterMove-flagged x os s (moveInPass m x) h c k) f
+  thePass-flagged m v t b f = thePass-all (Flagged i flag) (λ z q k. k) (λ price stamp used o k. k) m v t b f
 
   effectOfEntry-flagged : (v : Venue) (e : Entry) (j : ℕ) → i ≤ v.lastId → EntryAllowed v e → SoundVenue v → All (Flagged i flag) (v .orders) → All (Flagged i flag) ((effectOfEntry (v .market) v j e) .orders)
   unfolding entering effectOfEntry orderOf

@@ -1,0 +1,350 @@
+-- No. 7: no firm trades with itself, over every list of events; and with owner 0 everywhere every event is as before. Assumes nothing.
+use Prim.Native.Nat.{ℕ, _+_, _<_, min}
+use native.Mathlib.Omega.{arith}
+use mathlib.Core.Path.{_≡_, refl, ap, sym, _∙_, subst}
+use mathlib.Core.Bool.{Bool, true, false, not}
+use mathlib.Core.Option.{Option, none, some}
+use mathlib.Core.List.{List, [], _∷_, _++_, map, foldl, foldl-append, foldl-map, List·Memᴰ}
+use lib.Dec.{T, ltb, eqb, leb→le, le→leb, eqb→eq, T-not}
+use lib.ListN.{length}
+use Rattle.numbers.specs.Tests.{pick, All}
+use Rattle.numbers.specs.Answers.{refuses}
+use Rattle.numbers.proofs.TestLaws.{by-test, and-T, T-and, eq→T, ne→T, pick-no, all-both}
+use Rattle.prices.specs.Prices.{isStep, legal}
+use Rattle.book.specs.declared.Order.{Order}
+use Rattle.book.specs.rules.Orders.{find, without}
+use Rattle.book.specs.rules.Matching.{Execution, Happening, traded, execution, Meeting, trading, withdrawing, sameOwner, meeting, Matched, matching}
+use Rattle.book.specs.rules.Words.{isBook}
+use Rattle.book.proofs.definitions.OrderLaws.{idOf, Distinct, taken-all, mem-taken, without-all, without-differ, Found, find-found}
+use Rattle.book.proofs.definitions.CounterpartyLaws.{Reached}
+use Rattle.book.proofs.definitions.MeetingLaws.{execution-by, trading-known, withdrawing-known, meeting-by-owner}
+use Rattle.book.proofs.definitions.MatchingLaws.{afterTrade-all, afterTrade-differ, matching-keeps}
+use Rattle.book.proofs.definitions.OnlyTradingLaws.{unowned-only-trades}
+use Rattle.engine.specs.declared.Market.{Market}
+use Rattle.engine.specs.declared.Entry.{Entry}
+use Rattle.engine.specs.declared.Event.{Event}
+use Rattle.engine.specs.declared.Event.the-variants.{Entry as entry, Cancel as cancel, Bid as bid, Tape as tape, DayEnd as dayEnd, OwnedEntry as ownedEntry}
+use Rattle.engine.specs.declared.Remainder.{Remainder}
+use Rattle.engine.specs.declared.Remainder.the-variants.{Filled, Cancelled, Rests}
+use Rattle.engine.specs.declared.Move.{Move}
+use Rattle.engine.specs.declared.Move.the-variants.{Stay, Cancel, Reprice}
+use Rattle.engine.specs.rules.Market.{marketAfter}
+use Rattle.engine.specs.rules.Reports.{Report, dayEnded}
+use Rattle.engine.specs.rules.Working.{orderOf, remainder, afterRemainder, happened, work}
+use Rattle.engine.specs.rules.Pass.{atNewPrice, Effect, afterMove, passOne, passOver}
+use Rattle.engine.specs.rules.Venue.{Venue, opened, entering, effectOfEntry, effectOfCancel, thePass, restrictionReport, cancelledAtEnd, effectOfDayEnd, effectOf}
+use Rattle.engine.specs.rules.Refusals.{refusal}
+use Rattle.engine.specs.rules.Run.{Step, stepUnless, step, Call, Run, run}
+use Rattle.engine.specs.rules.Answers.{countOf, bufferAfter}
+use Rattle.engine.specs.rules.Layout.{venueOf, stepIn}
+use Rattle.engine.specs.steps.Steps.{moveInPass}
+use Rattle.engine.specs.claims.Account.{setAt}
+use Rattle.engine.specs.claims.Calls.{AppliedCall, Chain}
+use Rattle.engine.specs.claims.Owners.{Owners, noOwners, ownersAfter, worksNow, readOwners, ownersBy, ownersFrom, ownersOf, FirmsApart, NoFirmTradesWithItself, OwnersShown, OwnersAreShown, FirmsApartInCalls, NoFirmTradesWithItselfInCalls, workBefore, enteringBefore, afterMoveBefore, turnBefore, passBefore, effectBefore, stepUnlessBefore, stepBefore, Unowned, NamesNoOwner, EventAsBefore, UnownedAsBefore, stepInBefore, UnownedCallsAsBefore}
+use Rattle.engine.proofs.refinement.RefusalLaws.{EntryAllowed, Allowed, NotRefused, Unless, refusal-known}
+use Rattle.engine.proofs.refinement.OpeningLaws.{opening-known, opening-gives, opened-book, opened-venue}
+use Rattle.engine.proofs.demand3.MarketLaws.{HasPermitted}
+use Rattle.engine.proofs.demand3.TallyLaws.{setAt-same, setAt-other}
+use Rattle.engine.proofs.demand3.WorkingKeeps.{afterRemainder-all, work-all}
+use Rattle.engine.proofs.demand3.SoundLaws.{SoundBook, book-distinct, book-others, RemainderOf, remainder-known, passOne-sound, SoundVenue, sound-venue, market-permits}
+use Rattle.engine.proofs.demand3.CallLaws.{callOf, fresh-run}
+use Rattle.engine.proofs.requests.PassLaws.{afterMove-all, thePass-all}
+
+-- No firm trades with itself
+
+-- the column knows whose an order is
+abbrev Knows : Owners → Order → Type 0
+Knows c o = o.owner ≡ c .owner (o .id)
+
+-- orders that trade aren't of one firm, and those of which one is withdrawn are
+
+other-firms : (w o : Order) → T (not (sameOwner w o)) → 0 < w.owner → w.owner ≡ o.owner → ⊥
+unfolding sameOwner
+other-firms w o t l e = T-not (sameOwner w o) t (T-and (ltb 0 (w .owner)) (eqb (w .owner) (o .owner)) (le→leb 1 (w .owner) l) (eq→T e))
+
+one-firm : (w o : Order) → T (sameOwner w o) → (0 < w.owner) × (w.owner ≡ o.owner)
+unfolding sameOwner
+one-firm w o t =
+    let p = and-T (ltb 0 (w .owner)) (eqb (w .owner) (o .owner)) t in
+    (leb→le 1 (w .owner) (p .0), eqb→eq (w .owner) (o .owner) (p .1))
+
+-- a meeting
+
+abbrev readHappening : Owners → Happening → Owners
+readHappening c x = readOwners c (happened x)
+
+-- while w works
+record Works (w : Order) (os : List Order) (c : Owners) : Type 0 where
+  distinct : Distinct os
+  own : Knows c w
+  others : All (Knows c) os
+  working : c.working ≡ w.id
+  apart : FirmsApart c
+
+module _ (w o : Order) (os : List Order) (c : Owners) (r : Reached w os (some o)) (i : Works w os c) where
+  met : Knows c o
+  met = taken-all (Knows c) (mem-taken (r .0) (i .distinct)) (i .others) .0
+
+  execution-apart : (q : ℕ) → T (not (sameOwner w o)) → FirmsApart (readHappening c (traded (execution w o q)))
+  execution-apart q t =
+      execution-by
+      (λ (x : Execution). FirmsApart (readHappening c (traded x)))
+      w
+      o
+      q
+      (λ b. record { trades = (λ l e. other-firms w o t (omega (arith, i .own)) (i .own ∙ e ∙ sym met), i .apart .trades); withdrawals = i .apart .withdrawals })
+      (λ b. record { trades = (λ l e. other-firms w o t (omega (arith, i .own, e)) (i .own ∙ sym e ∙ sym met), i .apart .trades); withdrawals = i .apart .withdrawals })
+
+  trading-works : T (not (sameOwner w o)) → let x : Meeting = trading w o os in Works (x .left) (x .orders) (readHappening c (x .happening))
+  trading-works t =
+      let q : ℕ = min (w .shares) (o .shares) in
+      rw (trading-known w o os) record {
+        distinct = afterTrade-differ q (r .0) (i .distinct) idOf refl (i .distinct);
+        own = i .own;
+        others = afterTrade-all q (r .0) (i .distinct) (Knows c) (λ z s l h. h) (i .others);
+        working = i .working;
+        apart = execution-apart q t;
+      }
+
+  withdrawing-works : T (sameOwner w o) → let x : Meeting = withdrawing w o os in Works (x .left) (x .orders) (readHappening c (x .happening))
+  unfolding pick
+  withdrawing-works t =
+      let f = one-firm w o t in
+      let named : w.owner ≡ c .owner (c .working) = i .own ∙ ap (c .owner) (sym (i .working)) in
+      rw (withdrawing-known w o os) record {
+        distinct = without-differ idOf (o .id) os (i .distinct);
+        own = i .own;
+        others = without-all (Knows c) (o .id) os (i .others);
+        working = i .working;
+        apart = record { trades = i .apart .trades; withdrawals = ((omega (arith, f .0, named), sym named ∙ f .1 ∙ met), i .apart .withdrawals) };
+      }
+
+  meeting-works : let x : Meeting = meeting w o os in Works (x .left) (x .orders) (readHappening c (x .happening))
+  meeting-works =
+      meeting-by-owner (λ (x : Meeting). Works (x .left) (x .orders) (readHappening c (x .happening))) w o os withdrawing-works trading-works
+
+-- what becomes of the remainder names no other order
+
+remainder-tells : (c : Owners) (x : Remainder) (w : Order) (os : List Order) → RemainderOf w x → foldl readOwners c ((afterRemainder x w os) .reports) ≡ c
+unfolding afterRemainder
+remainder-tells c Filled w os h = refl
+remainder-tells c (Cancelled cause) w os h = pick-no (eqb cause 5) _ _ (ne→T cause 5 (λ e. omega (arith, h .1)))
+remainder-tells c Rests w os h = refl
+
+-- between and in events: the column knows all resting orders, and the firms are apart
+record Agrees (os : List Order) (c : Owners) : Type 0 where
+  known : All (Knows c) os
+  apart : FirmsApart c
+
+work-agrees : (w : Order) (os : List Order) (c : Owners) → Works w os c → Agrees ((work w os) .orders) (foldl readOwners c ((work w os) .reports))
+unfolding work
+work-agrees w os c i =
+    let m : Matched = matching w os in
+    let d : Owners = foldl readHappening c (m .happenings) in
+    let k : Works (m .left) (m .orders) d = matching-keeps readHappening Works meeting-works w os c i in
+    rw (foldl-append, foldl-map, remainder-tells d (remainder (m .left)) (m .left) (m .orders) (remainder-known (m .left)))
+    (record { known = afterRemainder-all (Knows d) (remainder (m .left)) (m .left) (m .orders) (k .own) (k .others); apart = k .apart })
+
+-- the pass
+
+afterMove-agrees : (x : Move) (o : Order) (os : List Order) (s : ℕ) (c : Owners) → Distinct os → List·Memᴰ o os → Agrees os c → Agrees ((afterMove x o os s) .orders) (foldl readOwners c ((afterMove x o os s) .reports))
+unfolding afterMove pick
+afterMove-agrees Stay o os s c d m i = i
+afterMove-agrees Cancel o os s c d m i = record { known = without-all (Knows c) (o .id) os (i .known); apart = i .apart }
+afterMove-agrees (Reprice p u) o os s c d m i =
+    let n : Owners = worksNow (o .id) c in
+    work-agrees (atNewPrice p (s + 1) u o) (without (o .id) os) n
+    (record {
+      distinct = without-differ idOf (o .id) os d;
+      own = taken-all (Knows c) (mem-taken m d) (i .known) .0;
+      others = without-all (Knows n) (o .id) os (i .known);
+      working = refl;
+      apart = record { trades = i .apart .trades; withdrawals = i .apart .withdrawals };
+    })
+
+module _ (m : Market) (t : HasPermitted m) (n : ℕ) where
+  passOne-agrees : (i : ℕ) (x : Option Order) (os : List Order) (s : ℕ) (c : Owners) → Found i os x → Distinct os → Agrees os c → Agrees ((passOne m x os s) .orders) (foldl readOwners c ((passOne m x os s) .reports))
+  unfolding passOne
+  passOne-agrees i none os s c f d h = h
+  passOne-agrees i (some o) os s c f d h = afterMove-agrees (moveInPass m o) o os s c d (f .0) h
+
+  passOver-agrees : (is : List ℕ) (os : List Order) (s : ℕ) (c : Owners) → SoundBook (m .step) n s os → Agrees os c → Agrees ((passOver m is os s) .orders) (foldl readOwners c ((passOver m is os s) .reports))
+  unfolding passOver
+  passOver-agrees [] os s c b h = h
+  passOver-agrees (i ∷ is) os s c b h =
+      let x : Effect = passOne m (find i os) os s in
+      let f = find-found i os in
+      rw foldl-append (passOver-agrees is (x .orders) (x .stamp) (foldl readOwners c (x .reports)) (passOne-sound m t n i (find i os) os s f b .0) (passOne-agrees i (find i os) os s c f (book-distinct b) h))
+
+thePass-agrees : (m : Market) → HasPermitted m → (v : Venue) (c : Owners) → SoundBook (m .step) (v .lastId) (v .lastStamp) (v .orders) → Agrees (v .orders) c → Agrees ((thePass m v) .orders) (foldl readOwners c ((thePass m v) .reports))
+unfolding thePass
+thePass-agrees m t v c b h = passOver-agrees m t (v .lastId) _ (v .orders) (v .lastStamp) c b h
+
+tape-agrees : (m : Market) → HasPermitted m → (v : Venue) (c : Owners) → SoundBook (m .step) (v .lastId) (v .lastStamp) (v .orders) → Agrees (v .orders) c → Agrees ((thePass m v) .orders) (foldl readOwners c (restrictionReport (v .market) m ++ (thePass m v) .reports))
+unfolding restrictionReport
+tape-agrees m t v c b h =
+    let r = thePass-agrees m t v c b h in
+    by-test (λ (rs : List Report). Agrees ((thePass m v) .orders) (foldl readOwners c (rs ++ (thePass m v) .reports))) _ (λ x. r) (λ x. r)
+
+-- events
+
+all-cancelled : (c : Owners) (p : ℕ) (os : List Order) → foldl readOwners c (map cancelledAtEnd os ++ dayEnded p ∷ []) ≡ c
+unfolding pick
+all-cancelled c p [] = refl
+all-cancelled c p (o ∷ os) = all-cancelled c p os
+
+-- an entry of either kind, with its owner
+abbrev named : Entry → ℕ → Owners → Owners
+named e k c = record { owner = setAt (e .id) k (c .owner); working = c.working; trades = c.trades; withdrawals = c.withdrawals }
+
+entry-agrees : (v : Venue) (e : Entry) (k : ℕ) (c : Owners) → EntryAllowed v e → SoundVenue v → Agrees (v .orders) c → let x : Effect = effectOfEntry (v .market) v k e in Agrees (x .orders) (foldl readOwners (named e k c) (x .reports))
+unfolding effectOfEntry entering orderOf
+entry-agrees v e k c a g h =
+    let n : Owners = worksNow (e .id) (named e k c) in
+    work-agrees (orderOf (v .market) (v .lastStamp + 1) k e) (v .orders) n
+    (record {
+      distinct = book-distinct (g .book);
+      own = sym (setAt-same (e .id) k (c .owner));
+      others = all-both (λ x i z. i ∙ sym (setAt-other (e .id) k (c .owner) (x .id) z)) (v .orders) (h .known) (book-others (g .book) (a .place .newId));
+      working = refl;
+      apart = record { trades = h .apart .trades; withdrawals = h .apart .withdrawals };
+    })
+
+effect-agrees : (v : Venue) (e : Event) (c : Owners) → Allowed v e → SoundVenue v → Agrees (v .orders) c → let x : Effect = effectOf (marketAfter e (v .market)) v e in Agrees (x .orders) (foldl readOwners (ownersAfter e c) (x .reports))
+unfolding effectOf effectOfCancel effectOfDayEnd pick
+effect-agrees v (entry e) c a g h = entry-agrees v e 0 c a g h
+effect-agrees v (cancel i) c a g h = record { known = without-all (Knows c) i (v .orders) (h .known); apart = h .apart }
+effect-agrees v (bid b) c a g h = thePass-agrees _ (g .market .step, a) v c (g .book) h
+effect-agrees v (tape p) c a g h = tape-agrees _ (market-permits (g .market)) v c (g .book) h
+effect-agrees v (dayEnd p) c a g h = rw (all-cancelled c _ (v .orders)) (record { known = tt; apart = h .apart })
+effect-agrees v (ownedEntry e k) c a g h = entry-agrees v e k c (a .0) g h
+
+-- every list
+
+unless-agrees : (x : Option ℕ) (v : Venue) (c : Owners) (e : Event) (n : ℕ) → Unless x (NotRefused v e n) → Agrees (v .orders) c → Agrees ((stepUnless x v e) .venue .orders) (ownersBy c e ((stepUnless x v e) .answer))
+unfolding stepUnless
+unless-agrees (some k) v c e n u h = h
+unless-agrees none v c e n u h = effect-agrees v e c (u .allowed) (sound-venue v (u .sound)) h
+
+run-agrees : (cs : List Call) (v : Venue) (c : Owners) → Agrees (v .orders) c → let r : Run = run v cs in Agrees (r .venue .orders) (ownersFrom c (r .answered))
+unfolding run step
+run-agrees [] v c h = h
+run-agrees (x ∷ xs) v c h = run-agrees xs _ _ (unless-agrees _ v c (x .event) (x .buffer) (refusal-known v (x .event) (x .buffer)) h)
+
+opened-agrees : (s close : ℕ) (cs : List Call) → let r : Run = run (opened s close) cs in Agrees (r .venue .orders) (ownersOf (r .answered))
+unfolding opened
+opened-agrees s close cs = run-agrees cs (opened s close) noOwners (record { known = tt; apart = record { trades = tt; withdrawals = tt } })
+
+pub no-firm-trades-with-itself : NoFirmTradesWithItself
+no-firm-trades-with-itself s close v o cs = rw (opening-known s close v o .fresh) (opened-agrees s close cs .apart)
+
+pub owners-are-shown : OwnersAreShown
+owners-are-shown s close v o cs = rw (opening-known s close v o .fresh) (opened-agrees s close cs .known)
+
+-- of calls, from words that mean a fresh venue
+pub apart-from : (s close : ℕ) → T (isStep s) → T (legal s close) → {w₀ : List ℕ} → T (isBook w₀) → venueOf w₀ ≡ opened s close → (cs : List AppliedCall) (w′ : List ℕ) → Chain w₀ cs w′ → FirmsApartInCalls cs w′
+unfolding venueOf
+apart-from s close i t u f cs w′ c =
+    let r = fresh-run s close i t u f c in
+    let a = opened-agrees s close (map callOf cs) in
+    record {
+      read = run (opened s close) (map callOf cs) .answered;
+      readable = r .readable;
+      apart = a .apart;
+      shown = subst (OwnersShown (ownersOf (run (opened s close) (map callOf cs) .answered))) (sym (ap (λ (v : Venue). v .orders) (r .venue))) (a .known);
+    }
+
+pub no-firm-trades-with-itself-in-calls : NoFirmTradesWithItselfInCalls
+no-firm-trades-with-itself-in-calls s close i t = apart-from s close i t (opened-book s close i t) (opened-venue s close i t)
+
+-- As before
+
+work-before : (w : Order) (os : List Order) → Unowned w → work w os ≡ workBefore w os
+unfolding work workBefore
+work-before w os h = rw (unowned-only-trades w os h)
+
+-- an entry of kind 1
+entering-before : (o : Order) (os : List Order) → Unowned o → entering o os ≡ enteringBefore o os
+unfolding entering enteringBefore
+entering-before o os h = rw (work-before o os h)
+
+-- a turn of the pass
+move-before : (y : Move) (o : Order) (os : List Order) (s : ℕ) → Unowned o → afterMove y o os s ≡ afterMoveBefore y o os s
+unfolding afterMove afterMoveBefore
+move-before Stay o os s h = refl
+move-before Cancel o os s h = refl
+move-before (Reprice p used) o os s h = rw (work-before (atNewPrice p (s + 1) used o) (without (o .id) os) h)
+
+module _ (m : Market) (t : HasPermitted m) (n : ℕ) where
+  turn-before : (i : ℕ) (x : Option Order) (os : List Order) (s : ℕ) → Found i os x → SoundBook (m .step) n s os → All Unowned os → (passOne m x os s ≡ turnBefore m x os s) × All Unowned ((passOne m x os s) .orders)
+  unfolding passOne turnBefore
+  turn-before i none os s f b h = (refl, h)
+  turn-before i (some o) os s f b h =
+      (move-before (moveInPass m o) o os s (taken-all Unowned (mem-taken (f .0) (book-distinct b)) h .0), afterMove-all Unowned (λ z q k. k) (λ price stamp used x k. k) o os s (moveInPass m o) (f .0) b h)
+
+  pass-before : (is : List ℕ) (os : List Order) (s : ℕ) → SoundBook (m .step) n s os → All Unowned os → passOver m is os s ≡ passBefore m is os s
+  unfolding passOver passBefore
+  pass-before [] os s b h = refl
+  pass-before (i ∷ is) os s b h =
+      let f = find-found i os in
+      let r = turn-before i (find i os) os s f b h in
+      rw (sym (r .0), pass-before is _ _ (passOne-sound m t n i (find i os) os s f b .0) (r .1))
+
+kind-1-unowned : (v : Venue) (e : Entry) → Unowned (orderOf (v .market) (v .lastStamp + 1) 0 e)
+unfolding orderOf
+kind-1-unowned v e = refl
+
+effect-before : (v : Venue) (e : Event) → Allowed v e → SoundVenue v → All Unowned (v .orders) → NamesNoOwner e → effectOf (marketAfter e (v .market)) v e ≡ effectBefore (marketAfter e (v .market)) v e
+unfolding effectOf effectOfEntry thePass
+effect-before v (entry e) a g h o = entering-before _ (v .orders) (kind-1-unowned v e)
+effect-before v (cancel i) a g h o = refl
+effect-before v (bid b) a g h o = pass-before _ (g .market .step, a) (v .lastId) (map idOf (v .orders)) (v .orders) (v .lastStamp) (g .book) h
+effect-before v (tape p) a g h o =
+    rw (pass-before (marketAfter (tape p) (v .market)) (market-permits (g .market)) (v .lastId) (map idOf (v .orders)) (v .orders) (v .lastStamp) (g .book) h)
+effect-before v (dayEnd c) a g h o = refl
+effect-before v (ownedEntry e k) a g h o = absurd o
+
+effect-unowned : (v : Venue) (e : Event) → Allowed v e → SoundVenue v → All Unowned (v .orders) → NamesNoOwner e → All Unowned ((effectOf (marketAfter e (v .market)) v e) .orders)
+unfolding effectOf effectOfEntry entering orderOf effectOfCancel effectOfDayEnd
+effect-unowned v (entry e) a g h o = work-all Unowned (λ z q k. k) _ (v .orders) (book-distinct (g .book)) refl h
+effect-unowned v (cancel i) a g h o = without-all Unowned i (v .orders) h
+effect-unowned v (bid b) a g h o = thePass-all Unowned (λ z q k. k) (λ price stamp used x k. k) _ v (g .market .step, a) (g .book) h
+effect-unowned v (tape p) a g h o = thePass-all Unowned (λ z q k. k) (λ price stamp used x k. k) _ v (market-permits (g .market)) (g .book) h
+effect-unowned v (dayEnd c) a g h o = tt
+effect-unowned v (ownedEntry e k) a g h o = absurd o
+
+unless-before : (x : Option ℕ) (v : Venue) (e : Event) (n : ℕ) → Unless x (NotRefused v e n) → All Unowned (v .orders) → NamesNoOwner e → (stepUnless x v e ≡ stepUnlessBefore x v e) × All Unowned ((stepUnless x v e) .venue .orders)
+unfolding stepUnless stepUnlessBefore
+unless-before (some k) v e n u h o = (refl, h)
+unless-before none v e n u h o =
+    let g = sound-venue v (u .sound) in
+    (rw (effect-before v e (u .allowed) g h o), effect-unowned v e (u .allowed) g h o)
+
+pub unowned-as-before : UnownedAsBefore
+unfolding step
+unowned-as-before v e n h o =
+    let r = unless-before (refusal v e n) v e n (refusal-known v e n) h o in
+    record { same = r .0; unowned = r .1 }
+
+-- on words that are laid out as no venue, 16 as before
+in-before : (w : List ℕ) (e : Event) (n : ℕ) → All Unowned (venueOf w .orders) → NamesNoOwner e → (stepIn w e n ≡ stepInBefore w e n) × All Unowned ((stepIn w e n) .venue .orders)
+unfolding stepIn pick
+in-before w e n h o = go (isBook w)
+  where
+    broken : Step
+    broken = record { answer = refuses 16; venue = venueOf w }
+
+    go : (laid : Bool) → (pick laid (step (venueOf w) e n) broken ≡ pick laid (stepBefore (venueOf w) e n) broken) × All Unowned ((pick laid (step (venueOf w) e n) broken) .venue .orders)
+    go true = let r = unowned-as-before (venueOf w) e n h o in (r .same, r .unowned)
+    go false = (refl, h)
+
+pub unowned-calls-as-before : UnownedCallsAsBefore
+unfolding venueOf
+unowned-calls-as-before w e b answer w′ b′ a h o =
+    let r = in-before w e (length b) h o in
+    record {
+      answers = a .answers ∙ ap (λ (s : Step). countOf (s .answer)) (r .0);
+      buffer = a .buffer ∙ ap (λ (s : Step). bufferAfter b (s .answer)) (r .0);
+      venue = a .venue ∙ ap (λ (s : Step). s .venue) (r .0);
+      unowned = subst (All Unowned) (sym (ap (λ (v : Venue). v .orders) (a .venue))) (r .1);
+    }

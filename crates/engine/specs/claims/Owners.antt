@@ -1,0 +1,233 @@
+-- Document 02, No. 7, firms that don't trade with themselves, as claims: an account of owners over every list of events, and what stays as it was. No definition of the
+-- account names the venue. Assumes nothing.
+use Prim.Native.Nat.{ℕ, _+_, _<_}
+use mathlib.Core.Path.{_≡_}
+use mathlib.Core.List.{List, [], _∷_, _++_, map, foldl}
+use mathlib.Core.Option.{Option, none, some}
+use lib.Dec.{T, eqb}
+use lib.ListN.{length}
+use Rattle.numbers.specs.Tests.{pick, All}
+use Rattle.numbers.specs.Answers.{Outcome, gives, refuses}
+use Rattle.prices.specs.Prices.{isStep, legal}
+use Rattle.book.specs.declared.Order.{Order}
+use Rattle.book.specs.rules.Orders.{find, without}
+use Rattle.book.specs.rules.Matching.{Matched}
+use Rattle.book.specs.rules.Words.{resting, isBook}
+use Rattle.book.specs.claims.OnlyTrading.{onlyTrading}
+use Rattle.engine.specs.declared.Market.{Market}
+use Rattle.engine.specs.declared.Event.{Event}
+use Rattle.engine.specs.declared.Event.the-variants.{Entry as entry, Cancel as cancel, Bid as bid, Tape as tape, DayEnd as dayEnd, OwnedEntry as ownedEntry}
+use Rattle.engine.specs.declared.Move.{Move}
+use Rattle.engine.specs.declared.Move.the-variants.{Stay, Cancel, Reprice}
+use Rattle.engine.specs.rules.Market.{marketAfter, restricted}
+use Rattle.engine.specs.rules.Reports.{Report, accepted, executed, cancelled, repriced, restrictionStarts, dayEnded}
+use Rattle.engine.specs.rules.Working.{Worked, orderOf, remainder, afterRemainder, happened}
+use Rattle.engine.specs.rules.Pass.{moveOf, atNewPrice, Effect, afterMove}
+use Rattle.engine.specs.rules.Venue.{Venue, opening, effectOfCancel, restrictionReport, effectOfDayEnd, effectOf, venueAfter}
+use Rattle.engine.specs.rules.Refusals.{refusal}
+use Rattle.engine.specs.rules.Run.{Step, step, Call, Answered, Run, run}
+use Rattle.engine.specs.rules.Answers.{countOf, bufferAfter}
+use Rattle.engine.specs.rules.Layout.{venueOf, openedWords}
+use Rattle.engine.specs.claims.Account.{setAt}
+use Rattle.engine.specs.claims.Calls.{Applied, AppliedCall, Chain, answeredOf}
+
+-- The account of owners
+
+-- the owners of both orders of a report 2, and those of the working order and of the order cancelled in a report 3 with cause 5
+pub record Sides : Type 0 where
+  pub buyer : ℕ
+  pub seller : ℕ
+
+pub record Withdrawal : Type 0 where
+  pub working : ℕ
+  pub withdrawn : ℕ
+
+-- owner is a column as those of the tallies: at k the owner that the accepted entry with id k named, 0 where there is none. working is the id of the working order;
+-- trades and withdrawals have the last one first
+pub record Owners : Type 0 where
+  pub owner : ℕ → ℕ
+  pub working : ℕ
+  pub trades : List Sides
+  pub withdrawals : List Withdrawal
+
+abbrev pub noOwners : Owners
+noOwners = record { owner = λ k. 0; working = 0; trades = []; withdrawals = [] }
+
+-- "Event kind 6 is an entry with an owner .. kind 1 has owner 0"
+abbrev pub ownersAfter : Event → Owners → Owners
+ownersAfter (entry e) c = record { owner = setAt (e .id) 0 (c .owner); working = c.working; trades = c.trades; withdrawals = c.withdrawals }
+ownersAfter (cancel i) c = c
+ownersAfter (bid b) c = c
+ownersAfter (tape p) c = c
+ownersAfter (dayEnd x) c = c
+ownersAfter (ownedEntry e k) c = record { owner = setAt (e .id) k (c .owner); working = c.working; trades = c.trades; withdrawals = c.withdrawals }
+
+-- "Report 1 or 4 .. that order is now the working one"
+abbrev pub worksNow : ℕ → Owners → Owners
+worksNow k c = record { owner = c.owner; working = k; trades = c.trades; withdrawals = c.withdrawals }
+
+abbrev pub readOwners : Owners → Report → Owners
+readOwners c (accepted k s p) = worksNow k c
+readOwners c (executed x) =
+    record {
+      owner = c.owner;
+      working = c.working;
+      trades = record { buyer = c.owner (x .buyer); seller = c.owner (x .seller) } ∷ c.trades;
+      withdrawals = c.withdrawals;
+    }
+readOwners c (cancelled k q cause) =
+    pick (eqb cause 5)
+    (record {
+      owner = c.owner;
+      working = c.working;
+      trades = c.trades;
+      withdrawals = record { working = c.owner (c .working); withdrawn = c.owner k } ∷ c.withdrawals;
+    })
+    c
+readOwners c (repriced k p s) = worksNow k c
+readOwners c restrictionStarts = c
+readOwners c (dayEnded p) = c
+
+-- one event with its answer: "A refused event changes nothing"
+abbrev pub ownersBy : Owners → Event → Outcome (List Report) → Owners
+ownersBy c e (refuses n) = c
+ownersBy c e (gives rs) = foldl readOwners (ownersAfter e c) rs
+
+abbrev pub ownersFrom : Owners → List Answered → Owners
+ownersFrom c xs = foldl (λ (d : Owners) (x : Answered). ownersBy d (x .event) (x .answer)) c xs
+
+-- the account of events with their answers
+abbrev pub ownersOf : List Answered → Owners
+ownersOf xs = ownersFrom noOwners xs
+
+-- The law
+
+-- not two orders of the same owner above 0
+abbrev pub Apart : Sides → Type 0
+Apart t = 0 < t.buyer → t.buyer ≡ t.seller → ⊥
+
+-- two orders of the same owner above 0
+abbrev pub SameFirm : Withdrawal → Type 0
+SameFirm t = (0 < t.working) × (t.working ≡ t.withdrawn)
+
+-- no firm trades with itself, and cause 5 meets none but a firm's own orders
+pub record FirmsApart (c : Owners) : Type 0 where
+  pub trades : All Apart (c .trades)
+  pub withdrawals : All SameFirm (c .withdrawals)
+
+-- for every step and close that open takes and every list of events, each lent a report buffer of any length
+abbrev pub NoFirmTradesWithItself : Type 0
+NoFirmTradesWithItself =
+    (s close : ℕ) (v : Venue) → opening s close ≡ gives v → (cs : List Call) → FirmsApart (ownersOf (run v cs .answered))
+
+-- the column says what the record of each resting order says
+abbrev pub OwnersShown : Owners → List Order → Type 0
+OwnersShown c os = All (λ (o : Order). o.owner ≡ c .owner (o .id)) os
+
+abbrev pub OwnersAreShown : Type 0
+OwnersAreShown =
+    (s close : ℕ) (v : Venue) → opening s close ≡ gives v → (cs : List Call) →
+    let r : Run = run v cs in
+    OwnersShown (ownersOf (r .answered)) (r .venue .orders)
+
+-- the same of calls, read from the events, the answers and the report bytes, and of the words after them
+pub record FirmsApartInCalls (cs : List AppliedCall) (w′ : List ℕ) : Type 0 where
+  pub read : List Answered
+  pub readable : map answeredOf cs ≡ map some read
+  pub apart : FirmsApart (ownersOf read)
+  pub shown : OwnersShown (ownersOf read) (resting w′)
+
+abbrev pub NoFirmTradesWithItselfInCalls : Type 0
+NoFirmTradesWithItselfInCalls =
+    (s close : ℕ) → T (isStep s) → T (legal s close) → (cs : List AppliedCall) (w′ : List ℕ) → Chain (openedWords s close) cs w′ → FirmsApartInCalls cs w′
+
+-- As before, with owner 0 everywhere: every meeting was a trade (`onlyTrading`)
+
+-- an order works, in an entry and in a turn of the pass; each with the matching of before and no other change
+unfoldable pub workBefore : Order → List Order → Worked
+workBefore w os =
+    let m : Matched = onlyTrading w os in
+    let r : Worked = afterRemainder (remainder (m .left)) (m .left) (m .orders) in
+    record { reports = map happened (m .happenings) ++ r.reports; orders = r.orders }
+
+unfoldable pub enteringBefore : Order → List Order → Effect
+enteringBefore o os =
+    let w : Worked = workBefore o os in
+    record { reports = accepted (o .id) (o .stamp) (o .price) ∷ w.reports; orders = w.orders; stamp = o.stamp }
+
+unfoldable pub afterMoveBefore : Move → Order → List Order → ℕ → Effect
+afterMoveBefore Stay o os s = afterMove Stay o os s
+afterMoveBefore Cancel o os s = afterMove Cancel o os s
+afterMoveBefore (Reprice p used) o os s =
+    let w : Worked = workBefore (atNewPrice p (s + 1) used o) (without (o .id) os) in
+    record { reports = repriced (o .id) p (s + 1) ∷ w.reports; orders = w.orders; stamp = s + 1 }
+
+unfoldable pub turnBefore : Market → Option Order → List Order → ℕ → Effect
+turnBefore m none os s = record { reports = []; orders = os; stamp = s }
+turnBefore m (some o) os s = afterMoveBefore (pick (restricted m (o .mark)) (moveOf m o) Stay) o os s
+
+unfoldable pub passBefore : Market → List ℕ → List Order → ℕ → Effect
+passBefore m [] os s = record { reports = []; orders = os; stamp = s }
+passBefore m (i ∷ is) os s =
+    let x : Effect = turnBefore m (find i os) os s in
+    let y : Effect = passBefore m is (x .orders) (x .stamp) in
+    record { reports = x.reports ++ y.reports; orders = y.orders; stamp = y.stamp }
+
+-- what an accepted event did; kind 6 wasn't there, and isn't asked about
+abbrev pub passOfAllBefore : Market → Venue → Effect
+passOfAllBefore m v = passBefore m (map (λ (o : Order). o .id) (v .orders)) (v .orders) (v .lastStamp)
+
+abbrev pub effectBefore : Market → Venue → Event → Effect
+effectBefore m v (entry e) = enteringBefore (orderOf m (v .lastStamp + 1) 0 e) (v .orders)
+effectBefore m v (cancel i) = effectOfCancel v i
+effectBefore m v (bid b) = passOfAllBefore m v
+effectBefore m v (tape p) =
+    let x : Effect = passOfAllBefore m v in
+    record { reports = restrictionReport (v .market) m ++ x.reports; orders = x.orders; stamp = x.stamp }
+effectBefore m v (dayEnd c) = effectOfDayEnd m v
+effectBefore m v (ownedEntry e k) = effectOf m v (ownedEntry e k)
+
+unfoldable pub stepUnlessBefore : Option ℕ → Venue → Event → Step
+stepUnlessBefore (some n) v e = record { answer = refuses n; venue = v }
+stepUnlessBefore none v e =
+    let x : Effect = effectBefore (marketAfter e (v .market)) v e in
+    record { answer = gives (x .reports); venue = venueAfter v e x }
+
+-- it is refused as now
+abbrev pub stepBefore : Venue → Event → ℕ → Step
+stepBefore v e n = stepUnlessBefore (refusal v e n) v e
+
+-- an order without an owner, and an event that names none
+abbrev pub Unowned : Order → Type 0
+Unowned o = o.owner ≡ 0
+
+abbrev pub NamesNoOwner : Event → Type 0
+NamesNoOwner (entry e) = Unit {0}
+NamesNoOwner (cancel i) = Unit {0}
+NamesNoOwner (bid b) = Unit {0}
+NamesNoOwner (tape p) = Unit {0}
+NamesNoOwner (dayEnd c) = Unit {0}
+NamesNoOwner (ownedEntry e k) = ⊥
+
+-- its answer and its venue are those of before, and owner 0 stays everywhere
+pub record EventAsBefore (v : Venue) (e : Event) (n : ℕ) : Type 0 where
+  pub same : step v e n ≡ stepBefore v e n
+  pub unowned : All Unowned (step v e n .venue .orders)
+
+abbrev pub UnownedAsBefore : Type 0
+UnownedAsBefore = (v : Venue) (e : Event) (n : ℕ) → All Unowned (v .orders) → NamesNoOwner e → EventAsBefore v e n
+
+-- the same of every call of apply, on any words and any buffer
+abbrev pub stepInBefore : List ℕ → Event → ℕ → Step
+stepInBefore w e n = pick (isBook w) (stepBefore (venueOf w) e n) (record { answer = refuses 16; venue = venueOf w })
+
+pub record CallAsBefore (w : List ℕ) (e : Event) (b : List ℕ) (answer : Outcome ℕ) (w′ b′ : List ℕ) : Type 0 where
+  pub answers : answer ≡ countOf (stepInBefore w e (length b) .answer)
+  pub buffer : b′ ≡ bufferAfter b (stepInBefore w e (length b) .answer)
+  pub venue : venueOf w′ ≡ stepInBefore w e (length b) .venue
+  pub unowned : All Unowned (resting w′)
+
+abbrev pub UnownedCallsAsBefore : Type 0
+UnownedCallsAsBefore =
+    (w : List ℕ) (e : Event) (b : List ℕ) (answer : Outcome ℕ) (w′ b′ : List ℕ) → Applied w e b answer w′ b′ →
+    All Unowned (resting w) → NamesNoOwner e → CallAsBefore w e b answer w′ b′
