@@ -3,6 +3,7 @@ pub mod Account
 pub mod Demand3
 pub mod Reached
 pub mod RoundTrips
+pub mod Owners
 pub mod Examples
 pub mod Calls
 pub mod MarketOrders
@@ -10,4 +11,3 @@ pub mod HalfCents
 pub mod WhichCode
 pub mod Fill
 pub mod FallingAgain
-pub mod Owners

@@ -1,3 +1,4 @@
 -- What is claimed of document 02's requests.
 pub mod FillLaws
 pub mod FallingAgainLaws
+pub mod OwnerLaws

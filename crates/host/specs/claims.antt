@@ -5,3 +5,4 @@ pub mod PlayCalls
 pub mod HostDays
 pub mod HostFill
 pub mod HostFallingAgain
+pub mod HostOwners

@@ -107,7 +107,8 @@ fn print_record(o: OrderRecord) {
     print_word(o.adjusted, b" ");
     print_word(o.used, b" ");
     print_word(o.clear, b" ");
-    print_word(o.market, b"\n");
+    print_word(o.market, b" ");
+    print_word(o.owner, b"\n");
 }
 
 // A record that no venue has: what copy out keeps must show.
@@ -127,6 +128,7 @@ fn blank() -> OrderRecord {
         used: 7,
         clear: 7,
         market: 7,
+        owner: 7,
     }
 }
 
@@ -156,23 +158,24 @@ fn send(words: &mut [u32], event: Event) {
     apply::apply(words, event, reports);
 }
 
-fn enter(words: &mut [u32], id: u32, mark: u32, price: u32, shares: u32, show: u32) {
-    send(
-        words,
-        Event::Entry(Entry {
-            id,
-            mark,
-            price,
-            shares,
-            show,
-            life: 0,
-            slide: 0,
-        }),
-    );
+fn entry(id: u32, mark: u32, price: u32, shares: u32, show: u32) -> Entry {
+    Entry {
+        id,
+        mark,
+        price,
+        shares,
+        show,
+        life: 0,
+        slide: 0,
+    }
 }
 
-// Copies of an empty book, of three orders, of a market short (price 0) too, of six orders, which the run of four is too short for, and of words
-// that are no venue.
+fn enter(words: &mut [u32], id: u32, mark: u32, price: u32, shares: u32, show: u32) {
+    send(words, Event::Entry(entry(id, mark, price, shares, show)));
+}
+
+// Copies of an empty book, of three orders, one of them with an owner, of a market short (price 0) too, of six orders, which the run of four is too short for,
+// and of words that are no venue.
 fn copies() -> [OrderRecord; 4] {
     io::write_all(STDOUT_FILENO, b"copy out\n");
     let opened = open::open(100, 100_000);
@@ -182,7 +185,7 @@ fn copies() -> [OrderRecord; 4] {
     send(words, Event::Bid(91_000));
     send(words, Event::Tape(90_000));
     enter(words, 1, 2, 90_500, 500, 1);
-    enter(words, 2, 0, 90_000, 200, 1);
+    send(words, Event::OwnedEntry(entry(2, 0, 90_000, 200, 1), 65_535));
     enter(words, 3, 1, 91_200, 300, 0);
     let run = try_copy(words);
     enter(words, 4, 2, 0, 100, 1);

@@ -1,4 +1,4 @@
--- Document 01, "Twelve sums, and one day", a day of market orders, one at a step of 50, days of falls, entries with bad codes and questions whether an entry would fill, as statements about the definitions. Assumes nothing.
+-- Document 01, "Twelve sums, and one day", a day of market orders, one at a step of 50, days of falls, entries with bad codes, questions whether an entry would fill and days of firms, as statements about the definitions. Assumes nothing.
 use Prim.Native.Nat.{ℕ}
 use mathlib.Core.Path.{_≡_}
 use mathlib.Core.Bool.{Bool, true, false, not}
@@ -10,14 +10,16 @@ use Rattle.numbers.specs.SevenBit.{byteCount}
 use Rattle.prices.specs.Prices.{isBid, permitted, permittedOf}
 use Rattle.prices.specs.Restriction.{triggers}
 use Rattle.prices.specs.Watch.{watchOutcome}
+use Rattle.book.specs.declared.Order.{Order}
 use Rattle.book.specs.declared.FrontRead.{FrontRead}
 use Rattle.engine.specs.declared.Event.{Event}
-use Rattle.engine.specs.declared.Event.the-variants.{Entry as entry, Cancel as cancel, Bid as bid, Tape as tape, DayEnd as dayEnd}
+use Rattle.engine.specs.declared.Event.the-variants.{Entry as entry, Cancel as cancel, Bid as bid, Tape as tape, DayEnd as dayEnd, OwnedEntry as ownedEntry}
 use Rattle.engine.specs.rules.Reports.{Report, accepted, executed, cancelled, repriced, restrictionStarts, dayEnded}
 use Rattle.engine.specs.rules.Venue.{Venue, opened, opening}
 use Rattle.engine.specs.rules.Refusals.{leastBuffer}
 use Rattle.engine.specs.rules.Run.{Call, Answered, step, run}
 use Rattle.engine.specs.rules.Fill.{wouldFill}
+use Rattle.engine.specs.claims.Owners.{Owners, ownersOf}
 
 -- "Shown together by one check of the definitions"
 abbrev pub twelveSums : List Bool
@@ -69,8 +71,11 @@ answersAt s es = map (λ (x : Answered). x .answer) ((run (opened s 100_000) (ma
 abbrev pub answersTo : List Event → List (Outcome (List Report))
 answersTo es = answersAt 100 es
 
+abbrev pub lastAnswerAt : ℕ → List Event → Outcome (List Report)
+lastAnswerAt s es = foldl (λ (before : Outcome (List Report)) (x : Outcome (List Report)). x) (refuses 0) (answersAt s es)
+
 abbrev pub lastAnswerTo : List Event → Outcome (List Report)
-lastAnswerTo es = foldl (λ (before : Outcome (List Report)) (x : Outcome (List Report)). x) (refuses 0) (answersTo es)
+lastAnswerTo es = lastAnswerAt 100 es
 
 -- events after two that turn the restriction on, with a bid of 91,000
 abbrev pub restrictedDay : List Event → List Event
@@ -242,6 +247,55 @@ pub record FillsTold : Type 0 where
   pub empty : wouldFill (emptyVenue 2 2) 0 0 1 ≡ no 0
   pub spent : wouldFill (emptyVenue 2 16_777_215) 0 0 1 ≡ no 0
   pub broken : wouldFill (emptyVenue 3 2) 9 90_050 0 ≡ refuses 16
+
+-- firms (No. 7): entries with an owner
+abbrev pub ownedOf : ℕ → ℕ → ℕ → ℕ → ℕ → ℕ → ℕ → ℕ → Event
+ownedOf id mark price shares show life slide owner =
+    ownedEntry (record { id = id; mark = mark; price = price; shares = shares; show = show; life = life; slide = slide }) owner
+
+-- a displayed one for the day
+abbrev pub ofFirm : ℕ → ℕ → ℕ → ℕ → ℕ → Event
+ofFirm owner id mark price shares = ownedOf id mark price shares 1 0 0 owner
+
+abbrev pub firmEvents : List Event
+firmEvents = ofFirm 7 1 0 90_000 100 ∷ ofFirm 8 2 0 90_100 50 ∷ ofFirm 7 3 0 90_200 30 ∷ ofFirm 7 4 1 90_000 100 ∷ []
+
+-- entries with an owner out of range, alone and beside another bad field, and what each is refused for
+abbrev pub badOwners : List Event
+badOwners =
+    ofFirm 0 1 0 90_000 100 ∷ ofFirm 65_536 1 0 90_000 100 ∷ ownedOf 1 0 90_000 100 1 0 1 0 ∷ ofFirm 0 0 0 90_000 100 ∷ ofFirm 7 0 0 90_000 100
+    ∷ ofFirm 0 1 0 90_000 0 ∷ []
+
+abbrev pub ownersRefused : List ℕ
+ownersRefused = 21 ∷ 21 ∷ 20 ∷ 21 ∷ 6 ∷ 4 ∷ []
+
+-- the id, the shares and the owner of each resting order
+abbrev pub restingAt : ℕ → List Event → List (List ℕ)
+restingAt s es = map (λ (o : Order). o.id ∷ o.shares ∷ o.owner ∷ []) (venueAfterAt s es .orders)
+
+pub record FirmsPlayed (s : ℕ) : Type 0 where
+  -- the best reached order is looked at, each time anew: 3 and 1 are the firm's own, 2 isn't
+  pub entryMeets : lastAnswerAt s firmEvents ≡ gives (accepted 4 4 90_000 ∷ cancelled 3 30 5 ∷ tradeOf 2 4 90_100 50 ∷ cancelled 1 100 5 ∷ [])
+  pub leftResting : restingAt s firmEvents ≡ (4 ∷ 50 ∷ 7 ∷ []) ∷ []
+  -- "This holds in the pass as well"
+  pub passMeets : lastAnswerAt s (restrictedDay (ofFirm 7 1 2 90_000 100 ∷ ofFirm 7 2 0 90_800 40 ∷ ofFirm 8 3 0 90_900 40 ∷ bid 90_000 ∷ [])) ≡ gives (repriced 1 (permitted s 90_000) 4 ∷ tradeOf 3 1 90_900 40 ∷ cancelled 2 40 5 ∷ [])
+  pub badOwners : answersAt s badOwners ≡ map refuses ownersRefused
+  -- an own order behind the one that fills the working order stays
+  pub behindStays : lastAnswerAt s (ofFirm 7 1 0 90_000 100 ∷ ofFirm 8 2 0 90_100 50 ∷ ofFirm 7 3 1 90_000 50 ∷ []) ≡ gives (accepted 3 3 90_000 ∷ tradeOf 2 3 90_100 50 ∷ [])
+  -- an immediate order that finds its owner's alone is still cancelled, an adjusted opt-out too, and so is a market order
+  pub immediate : lastAnswerAt s (ofFirm 7 1 0 90_000 100 ∷ ownedOf 2 1 90_000 40 1 1 0 7 ∷ []) ≡ gives (accepted 2 2 90_000 ∷ cancelled 1 100 5 ∷ cancelled 2 40 2 ∷ [])
+  pub optedOut : lastAnswerAt s (restrictedDay (ofFirm 7 1 0 91_200 100 ∷ ownedOf 2 2 90_000 40 1 0 3 7 ∷ [])) ≡ gives (accepted 2 2 (permitted s 91_000) ∷ cancelled 1 100 5 ∷ cancelled 2 40 3 ∷ [])
+  pub market : lastAnswerAt s (ofFirm 65_535 1 1 90_000 10 ∷ ofFirm 65_535 2 0 0 5 ∷ []) ≡ gives (accepted 2 2 100_000_000 ∷ cancelled 1 10 5 ∷ cancelled 2 5 2 ∷ [])
+  -- owner 0 is no firm
+  pub nobodys : lastAnswerAt s (entryOf 1 0 90_000 100 1 0 0 ∷ entryOf 2 1 90_000 100 1 0 0 ∷ []) ≡ gives (accepted 2 2 90_000 ∷ tradeOf 1 2 90_000 100 ∷ [])
+  -- the account of the first list: one execution, of firms 8 and 7, and two of 7's own withdrawn
+  pub accountOfList :
+      let c : Owners = ownersOf ((run (opened s 100_000) (map callOf firmEvents)) .answered) in
+      (c .trades ≡ record { buyer = 8; seller = 7 } ∷ [])
+      × (c .withdrawals ≡ record { working = 7; withdrawn = 7 } ∷ record { working = 7; withdrawn = 7 } ∷ [])
+
+abbrev pub FirmsPlayedAtBoth : Type 0
+FirmsPlayedAtBoth = All FirmsPlayed (100 ∷ 50 ∷ [])
 
 -- other steps than 50 and 100 (No. 2), beside a close, a bid and a price that are refused at every step: "refused with 17, before the close or price is looked
 -- at"; in a venue record whose close is legal by itself "it is a broken condition"

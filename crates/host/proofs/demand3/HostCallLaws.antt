@@ -60,9 +60,9 @@ market-shorts-stay-for-hosts w bytes b answer w′ b′ a r e =
     market-shorts-stay-in-calls w (r .value) b (outcomeOf answer) w′ b′ (x .applied)
 
 pub calls-as-before-for-hosts : CallsAsBeforeForHosts
-calls-as-before-for-hosts w bytes b answer w′ b′ a e end r =
-    let x : EventApplied w (entry e) b answer w′ b′ = rw r at a in
-    calls-as-before w e b (outcomeOf answer) w′ b′ (x .applied)
+calls-as-before-for-hosts w bytes b answer w′ b′ a r e =
+    let x : EventApplied w (r .value) b answer w′ b′ = rw e at a in
+    calls-as-before w (r .value) b (outcomeOf answer) w′ b′ (x .applied)
 
 pub demand3-of-hosts : Demand3OfHosts
 demand3-of-hosts w s close w₀ h cs w′ c =

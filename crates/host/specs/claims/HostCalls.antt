@@ -81,11 +81,11 @@ MarketShortsStayForHosts =
     (r : Read Event) → recordAt bytes 0 ≡ gives r → T (runsPass (r .value)) → (marketAfter (r .value) (venueOf w .market)) .bid ≡ 0 →
     (i : ℕ) (o : Order) → find i (resting w) ≡ some o → T (o .market) → find i (resting w′) ≡ some o
 
--- No. 3: with 18, 19 and 20 read as 5, a call whose record reads as an entry is answered as before, and leaves the report bytes and the venue of before
+-- No. 3: with 18, 19 and 20 read as 5, a call whose record reads as an event is answered as before, and leaves the report bytes and the venue of before
 abbrev pub CallsAsBeforeForHosts : Type 0
 CallsAsBeforeForHosts =
     (w bytes b : List ℕ) (answer : ℕ) (w′ b′ : List ℕ) → HostApplied w bytes b answer w′ b′ →
-    (e : Entry) (end : ℕ) → recordAt bytes 0 ≡ gives (record { value = entry e; end = end }) → CallAsBefore w e b (outcomeOf answer) w′ b′
+    (r : Read Event) → recordAt bytes 0 ≡ gives r → CallAsBefore w (r .value) b (outcomeOf answer) w′ b′
 
 -- From the words that venue_open leaves with the answer 0; the run may be longer than a venue
 
