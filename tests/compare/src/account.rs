@@ -407,4 +407,43 @@ mod tests {
         };
         assert_eq!(judged, Err(crossed));
     }
+
+    /// "Shares cancelled so count as cancelled", and kind 6 starts a tally like kind 1
+    /// (E4): a sale meets its own firm's buy and then another's.
+    #[test]
+    fn own_orders_that_are_cancelled_have_tallies() {
+        let owned = |id, mark, owner| match entry(id, mark, 91_000) {
+            Event::Entry(entry) => Event::Entry(Entry {
+                owner: Some(owner),
+                ..entry
+            }),
+            other => other,
+        };
+        let start = || {
+            let mut account = at_bid(0);
+            for (id, owner) in [(1, 7), (2, 8)] {
+                let entered = account.take(&owned(id, 0, owner), &[accepted(id, 91_000)]);
+                assert_eq!(entered, Ok(()));
+            }
+            let buys = [rest(1, 91_000), rest(2, 91_000)];
+            assert_eq!(account.judge(buys.into_iter()), Ok(()));
+            account
+        };
+        let cancelled = |shares| Report::Cancelled {
+            id: 1,
+            shares,
+            cause: 5,
+        };
+        let sale = [accepted(3, 91_000), cancelled(5), sold(3, 91_000)];
+        let mut account = start();
+        assert_eq!(account.take(&owned(3, 1, 7), &sale), Ok(()));
+        assert_eq!(account.judge([].into_iter()), Ok(()));
+        let quietly = [sale[0], sale[2]];
+        let short = [sale[0], cancelled(4), sale[2]];
+        for wrong in [&quietly[..], &short] {
+            let mut account = start();
+            assert_eq!(account.take(&owned(3, 1, 7), wrong), Ok(()));
+            assert_eq!(account.judge([].into_iter()), Err(Breach::ShareSum(1)));
+        }
+    }
 }

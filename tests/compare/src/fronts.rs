@@ -133,15 +133,30 @@ pub fn check(asked: &Question, venue: &Venue, answer: Result<Fill, Refusal>) -> 
     Ok(())
 }
 
+/// Whether an entry's owner has orders in the book: "The fill question has owner 0", so
+/// it counts orders that the entry would cancel.
+pub fn owner_rests(entry: &Entry, venue: &Venue) -> bool {
+    let mut owners = venue.orders.iter().map(|order| order.owner);
+    entry
+        .owner
+        .is_some_and(|own| owners.any(|owner| owner == own))
+}
+
 /// Holds the yes or no, or the refusal's number, that was given just before an
-/// entry against what the entry got: "whether an entry would fill in full now".
+/// entry against what the entry got: "whether an entry would fill in full now". Of one
+/// whose owner has orders in the book, a no alone says something.
 pub fn hold(
     entry: &Entry,
+    owner_rests: bool,
     answer: Result<bool, u32>,
     entered: Result<&[Report], Refusal>,
 ) -> Result<(), Fault> {
     let holds = match entered {
-        Ok(reports) => answer == Ok(executed(entry.id, reports) == entry.shares),
+        Ok(reports) => {
+            let filled = executed(entry.id, reports) == entry.shares;
+            let may_miss = owner_rests && answer == Ok(true);
+            answer == Ok(filled) || may_miss
+        }
         Err(Refusal::ShortBuffer | Refusal::Spent) => answer != Err(16),
         Err(
             refusal @ (Refusal::VenueRecord | Refusal::Price | Refusal::Shares | Refusal::Mark),
@@ -387,18 +402,43 @@ mod tests {
             price: 90_000,
             shares,
         };
+        let hold = |answer, entered| hold(&entry, false, answer, entered);
         let (all, some) = ([execution(2), execution(3)], [execution(4)]);
         for (yes, reports) in [(true, &all[..]), (false, &some), (false, &[])] {
-            assert_eq!(hold(&entry, Ok(yes), Ok(reports)), Ok(()));
-            assert!(hold(&entry, Ok(!yes), Ok(reports)).is_err());
-            assert!(hold(&entry, Err(3), Ok(reports)).is_err());
+            assert_eq!(hold(Ok(yes), Ok(reports)), Ok(()));
+            assert!(hold(Ok(!yes), Ok(reports)).is_err());
+            assert!(hold(Err(3), Ok(reports)).is_err());
         }
-        assert_eq!(hold(&entry, Err(3), Err(Refusal::Price)), Ok(()));
-        assert!(hold(&entry, Err(4), Err(Refusal::Price)).is_err());
-        assert!(hold(&entry, Ok(true), Err(Refusal::Mark)).is_err());
-        assert_eq!(hold(&entry, Ok(true), Err(Refusal::Full)), Ok(()));
-        assert!(hold(&entry, Err(7), Err(Refusal::Full)).is_err());
-        assert_eq!(hold(&entry, Ok(false), Err(Refusal::Spent)), Ok(()));
-        assert!(hold(&entry, Err(16), Err(Refusal::Spent)).is_err());
+        assert_eq!(hold(Err(3), Err(Refusal::Price)), Ok(()));
+        assert!(hold(Err(4), Err(Refusal::Price)).is_err());
+        assert!(hold(Ok(true), Err(Refusal::Mark)).is_err());
+        assert_eq!(hold(Ok(true), Err(Refusal::Full)), Ok(()));
+        assert!(hold(Err(7), Err(Refusal::Full)).is_err());
+        assert_eq!(hold(Ok(false), Err(Refusal::Spent)), Ok(()));
+        assert!(hold(Err(16), Err(Refusal::Spent)).is_err());
+    }
+
+    /// A yes may miss where own orders are in reach; a no may not.
+    #[test]
+    fn an_entry_whose_owner_has_orders() {
+        let entry = Entry {
+            owner: Some(7),
+            ..entry_of(&BUY)
+        };
+        let all = [Report::Executed {
+            buyer: entry.id,
+            seller: 1,
+            price: 90_000,
+            shares: 5,
+        }];
+        for own in [true, false] {
+            assert_eq!(hold(&entry, own, Ok(true), Ok(&all)), Ok(()));
+            assert_eq!(hold(&entry, own, Ok(false), Ok(&[])), Ok(()));
+            assert!(hold(&entry, own, Ok(false), Ok(&all)).is_err());
+            assert!(hold(&entry, own, Err(3), Ok(&all)).is_err());
+            assert_eq!(hold(&entry, own, Ok(true), Ok(&[])).is_ok(), own);
+            let refused = hold(&entry, own, Ok(true), Err(Refusal::Owner));
+            assert_eq!(refused, Ok(()));
+        }
     }
 }
