@@ -150,10 +150,10 @@ impl Checked {
         let answer = self.ask(&entry.question(), counts)?;
         let answer = answer.map(|fill| fill.in_full).map_err(Refusal::number);
         let own = fronts::owner_rests(entry, &self.before);
-        if let (Ok(yes), Ok(_), false) = (answer, entered, own) {
-            counts.asked.hold(&self.before, yes);
+        if let Some(held) = fronts::hold(entry, own, answer, entered)? {
+            counts.asked.hold(&self.before, held);
         }
-        fronts::hold(entry, own, answer, entered)
+        Ok(())
     }
 
     /// An event on a sound record does what document 01 says without market orders
@@ -170,8 +170,9 @@ impl Checked {
         conditions::check(before, event, answer)?;
         by_limits::check(before, event, buffer, answer, after)?;
         phase_table::check(before, event, buffer, answer, after)?;
-        let _ = matching::check(before, event, answer, after)?;
-        let _ = by_owners::check(before, event, buffer, answer, after)?;
+        let as_before = matching::check(before, event, answer, after)?;
+        let without_owners = by_owners::check(before, event, buffer, answer, after)?;
+        counts.withdrawals.check(as_before, without_owners);
         let by_document_01 = before.step == CENT;
         if by_document_01 {
             document_01::check(before, event, answer, after)?;

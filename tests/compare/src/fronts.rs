@@ -2,6 +2,7 @@
 //! an entry says of the answer that was given before it. No formula here but the
 //! record check is the model's.
 
+use crate::asked::Held;
 use crate::conditions::{refusal_of, Condition, CONDITIONS};
 use crate::model::{Entry, Fill, Order, Question, Refusal, Report, Venue};
 use crate::price_rules::permitted;
@@ -144,18 +145,19 @@ pub fn owner_rests(entry: &Entry, venue: &Venue) -> bool {
 
 /// Holds the yes or no, or the refusal's number, that was given just before an
 /// entry against what the entry got: "whether an entry would fill in full now". Of one
-/// whose owner has orders in the book, a no alone says something.
+/// whose owner has orders in the book, a no alone says something. Gives what was held
+/// against an accepted one.
 pub fn hold(
     entry: &Entry,
     owner_rests: bool,
     answer: Result<bool, u32>,
     entered: Result<&[Report], Refusal>,
-) -> Result<(), Fault> {
+) -> Result<Option<Held>, Fault> {
+    let filled = entered.map(|reports| executed(entry.id, reports) == entry.shares);
     let holds = match entered {
-        Ok(reports) => {
-            let filled = executed(entry.id, reports) == entry.shares;
+        Ok(_) => {
             let may_miss = owner_rests && answer == Ok(true);
-            answer == Ok(filled) || may_miss
+            answer == filled.map_err(Refusal::number) || may_miss
         }
         Err(Refusal::ShortBuffer | Refusal::Spent) => answer != Err(16),
         Err(
@@ -166,7 +168,15 @@ pub fn hold(
     ensure(
         holds,
         &format!("an answer against its entry: {answer:?} {entry:?} {entered:?}"),
-    )
+    )?;
+    Ok(match (answer, filled) {
+        (Ok(yes), Ok(filled)) => Some(Held {
+            owner_rests,
+            yes,
+            filled,
+        }),
+        _ => None,
+    })
 }
 
 /// The shares of an order that reports execute.
@@ -402,7 +412,7 @@ mod tests {
             price: 90_000,
             shares,
         };
-        let hold = |answer, entered| hold(&entry, false, answer, entered);
+        let hold = |answer, entered| hold(&entry, false, answer, entered).map(|_| ());
         let (all, some) = ([execution(2), execution(3)], [execution(4)]);
         for (yes, reports) in [(true, &all[..]), (false, &some), (false, &[])] {
             assert_eq!(hold(Ok(yes), Ok(reports)), Ok(()));
@@ -432,12 +442,13 @@ mod tests {
             shares: 5,
         }];
         for own in [true, false] {
-            assert_eq!(hold(&entry, own, Ok(true), Ok(&all)), Ok(()));
-            assert_eq!(hold(&entry, own, Ok(false), Ok(&[])), Ok(()));
-            assert!(hold(&entry, own, Ok(false), Ok(&all)).is_err());
-            assert!(hold(&entry, own, Err(3), Ok(&all)).is_err());
-            assert_eq!(hold(&entry, own, Ok(true), Ok(&[])).is_ok(), own);
-            let refused = hold(&entry, own, Ok(true), Err(Refusal::Owner));
+            let hold = |answer, entered| hold(&entry, own, answer, entered).map(|_| ());
+            assert_eq!(hold(Ok(true), Ok(&all)), Ok(()));
+            assert_eq!(hold(Ok(false), Ok(&[])), Ok(()));
+            assert!(hold(Ok(false), Ok(&all)).is_err());
+            assert!(hold(Err(3), Ok(&all)).is_err());
+            assert_eq!(hold(Ok(true), Ok(&[])).is_ok(), own);
+            let refused = hold(Ok(true), Err(Refusal::Owner));
             assert_eq!(refused, Ok(()));
         }
     }

@@ -46,6 +46,7 @@ mod made_up;
 mod market_days;
 mod market_orders;
 mod matching;
+mod meetings;
 mod model;
 mod number_sides;
 mod numbers;
@@ -69,6 +70,7 @@ mod shown;
 #[cfg(feature = "engine")]
 mod sides;
 mod streams;
+mod withdrawals;
 
 use model::{CENT, HALF_CENT};
 use std::io::{self, Read, Write};

@@ -219,3 +219,328 @@ pub fn check(
     ensure(by_trades == as_before, "matching before owners")?;
     Ok(as_before)
 }
+
+#[cfg(test)]
+mod tests {
+    use super::*;
+    use crate::shown::show_all;
+
+    /// A wrong version of matching, and what is wrong with it.
+    type Wrong = (&'static str, Matching);
+
+    /// Matching with another notion of an own order and another answer to one.
+    fn by(
+        book: &mut Book,
+        working: &mut Order,
+        is_own: impl Fn(&Order, &Order) -> bool,
+        meet: impl Fn(&mut Book, usize, &mut Order) -> Report,
+    ) -> Vec<Report> {
+        while_shares_remain(book, working, |book, working| {
+            let at = best(book, working, |_| true)?;
+            Some(match is_own(working, &book[at]) {
+                true => meet(book, at, working),
+                false => execute(book, at, working),
+            })
+        })
+    }
+
+    fn cancel(book: &mut Book, at: usize, _: &mut Order) -> Report {
+        withdraw(book, at, 5)
+    }
+
+    /// Other notions of an own order.
+    const OTHER_FIRMS: [Wrong; 8] = [
+        ("owner 0 is a firm", |book, working, _| {
+            by(book, working, |own, other| own.owner == other.owner, cancel)
+        }),
+        ("owners by a byte", |book, working, _| {
+            let is_own =
+                |own: &Order, other: &Order| own.owner > 0 && own.owner as u8 == other.owner as u8;
+            by(book, working, is_own, cancel)
+        }),
+        ("a byte that is 0 is nobody's", |book, working, _| {
+            let is_own = |own: &Order, other: &Order| own.owner as u8 > 0 && is_own(own, other);
+            by(book, working, is_own, cancel)
+        }),
+        ("firms don't trade with firms", |book, working, _| {
+            by(
+                book,
+                working,
+                |own, other| own.owner.min(other.owner) > 0,
+                cancel,
+            )
+        }),
+        ("65,535 is nobody's", |book, working, _| {
+            let is_own = |own: &Order, other: &Order| own.owner < 65_535 && is_own(own, other);
+            by(book, working, is_own, cancel)
+        }),
+        ("hidden own orders trade", |book, working, _| {
+            let is_own = |own: &Order, other: &Order| other.show == 1 && is_own(own, other);
+            by(book, working, is_own, cancel)
+        }),
+        (
+            "own orders at the working price trade",
+            |book, working, _| {
+                let is_own =
+                    |own: &Order, other: &Order| other.price != own.price && is_own(own, other);
+                by(book, working, is_own, cancel)
+            },
+        ),
+        ("own orders of no fewer shares trade", |book, working, _| {
+            let is_own =
+                |own: &Order, other: &Order| other.shares < own.shares && is_own(own, other);
+            by(book, working, is_own, cancel)
+        }),
+    ];
+
+    /// Cancels the working order; the resting one stays.
+    fn cancel_working(_: &mut Book, _: usize, working: &mut Order) -> Report {
+        let shares = std::mem::take(&mut working.shares);
+        Report::Cancelled {
+            id: working.id,
+            shares,
+            cause: 5,
+        }
+    }
+
+    /// Cancels as many shares of both.
+    fn cancel_both(book: &mut Book, at: usize, working: &mut Order) -> Report {
+        let (id, shares) = (book[at].id, book[at].shares.min(working.shares));
+        let _ = execute(book, at, working);
+        Report::Cancelled {
+            id,
+            shares,
+            cause: 5,
+        }
+    }
+
+    /// Cancels with other shares in the report.
+    fn report_shares(
+        book: &mut Book,
+        working: &mut Order,
+        of: impl Fn(&Order, &Order) -> u32,
+    ) -> Vec<Report> {
+        by(book, working, is_own, |book, at, working| {
+            let resting = book.remove(at);
+            Report::Cancelled {
+                id: resting.id,
+                shares: of(working, &resting),
+                cause: 5,
+            }
+        })
+    }
+
+    /// The same steps, some of whose reports aren't given.
+    fn without_reports(made: Vec<Report>, is_kept: impl Fn(&Report) -> bool) -> Vec<Report> {
+        made.into_iter().filter(is_kept).collect()
+    }
+
+    fn is_cancel(report: &Report) -> bool {
+        matches!(report, Report::Cancelled { .. })
+    }
+
+    /// The cancels stand behind the executions, or before them.
+    fn cancels_apart(mut made: Vec<Report>, behind: bool) -> Vec<Report> {
+        made.sort_by_key(|report| is_cancel(report) == behind);
+        made
+    }
+
+    /// Other answers to an own order.
+    const OTHER_ANSWERS: [Wrong; 12] = [
+        ("only trades", only_trades),
+        ("cause 4", |book, working, _| {
+            by(book, working, is_own, |book, at, _| withdraw(book, at, 4))
+        }),
+        ("cause 1", |book, working, _| {
+            by(book, working, is_own, |book, at, _| withdraw(book, at, 1))
+        }),
+        ("the working order cancelled", |book, working, _| {
+            by(book, working, is_own, cancel_working)
+        }),
+        (
+            "the smaller amount of both cancelled",
+            |book, working, _| by(book, working, is_own, cancel_both),
+        ),
+        ("no report", |book, working, pass| {
+            without_reports(matching(book, working, pass), |report| !is_cancel(report))
+        }),
+        ("a report of 0 shares", |book, working, _| {
+            report_shares(book, working, |_, _| 0)
+        }),
+        (
+            "a report of the working order's shares",
+            |book, working, _| report_shares(book, working, |working, _| working.shares),
+        ),
+        ("a report of the smaller amount", |book, working, _| {
+            report_shares(book, working, |working, resting| {
+                working.shares.min(resting.shares)
+            })
+        }),
+        ("cancels behind the executions", |book, working, pass| {
+            cancels_apart(matching(book, working, pass), true)
+        }),
+        ("cancels before the executions", |book, working, pass| {
+            cancels_apart(matching(book, working, pass), false)
+        }),
+        ("the working order's owner lost", |book, working, pass| {
+            let made = matching(book, working, pass);
+            working.owner = 0;
+            made
+        }),
+    ];
+
+    /// Cancels all own orders within reach, best first.
+    fn withdraw_all(book: &mut Book, working: &Order) -> Vec<Report> {
+        let mut made = Vec::new();
+        while let Some(at) = best(book, working, |order| is_own(working, order)) {
+            made.push(withdraw(book, at, 5));
+        }
+        made
+    }
+
+    /// Matching up to an own order, what happens there once, and trades behind it.
+    fn at_first_own(
+        book: &mut Book,
+        working: &mut Order,
+        once: impl Fn(&mut Book, usize, &Order) -> Vec<Report>,
+        goes_on: bool,
+    ) -> Vec<Report> {
+        let mut made = while_shares_remain(book, working, |book, working| {
+            let at = best(book, working, |_| true)?;
+            (!is_own(working, &book[at])).then(|| execute(book, at, working))
+        });
+        if working.shares > 0 {
+            if let Some(at) = best(book, working, |_| true) {
+                made.extend(once(book, at, working));
+                if goes_on {
+                    made.extend(only_trades(book, working, false));
+                }
+            }
+        }
+        made
+    }
+
+    /// Other moments at which own orders go.
+    const OTHER_MOMENTS: [Wrong; 11] = [
+        (
+            "own orders in reach withdrawn first",
+            |book, working, pass| {
+                let mut made = withdraw_all(book, working);
+                made.extend(only_trades(book, working, pass));
+                made
+            },
+        ),
+        ("all withdrawn at the first met", |book, working, _| {
+            let once = |book: &mut Book, _, working: &Order| withdraw_all(book, working);
+            at_first_own(book, working, once, true)
+        }),
+        ("one withdrawn, others trade", |book, working, _| {
+            let once = |book: &mut Book, at, _: &Order| vec![withdraw(book, at, 5)];
+            at_first_own(book, working, once, true)
+        }),
+        ("matching ends with a withdrawal", |book, working, _| {
+            let once = |book: &mut Book, at, _: &Order| vec![withdraw(book, at, 5)];
+            at_first_own(book, working, once, false)
+        }),
+        ("matching ends at an own order", |book, working, _| {
+            at_first_own(book, working, |_, _, _| Vec::new(), false)
+        }),
+        ("own orders skipped", |book, working, _| {
+            while_shares_remain(book, working, |book, working| {
+                let at = best(book, working, |order| !is_own(working, order))?;
+                Some(execute(book, at, working))
+            })
+        }),
+        (
+            "own orders skipped, then withdrawn",
+            |book, working, pass| {
+                let mut made = OTHER_MOMENTS[5].1(book, working, pass);
+                if working.shares > 0 {
+                    made.extend(withdraw_all(book, working));
+                }
+                made
+            },
+        ),
+        ("withdrawn behind a fill too", |book, working, pass| {
+            let mut made = matching(book, working, pass);
+            while let Some(at) = best(book, working, |_| true) {
+                if !is_own(working, &book[at]) {
+                    break;
+                }
+                made.push(withdraw(book, at, 5));
+            }
+            made
+        }),
+        (
+            "no withdrawing in the pass",
+            |book, working, pass| match pass {
+                true => only_trades(book, working, pass),
+                false => matching(book, working, pass),
+            },
+        ),
+        (
+            "own orders skipped in the pass",
+            |book, working, pass| match pass {
+                true => OTHER_MOMENTS[5].1(book, working, pass),
+                false => matching(book, working, pass),
+            },
+        ),
+        (
+            "withdrawing in the pass alone",
+            |book, working, pass| match pass {
+                true => matching(book, working, pass),
+                false => only_trades(book, working, pass),
+            },
+        ),
+    ];
+
+    const NAME: &str = "matching";
+
+    /// The names of the versions that so many events don't tell from the model at a
+    /// step.
+    fn untold(seed: u64, step: u32, events: u32) -> Vec<&'static str> {
+        let right: Wrong = (NAME, matching);
+        let mut untold = [&[right][..], &OTHER_FIRMS, &OTHER_ANSWERS, &OTHER_MOMENTS].concat();
+        show_all(seed, events, |shown| {
+            if shown.before.step != step {
+                return;
+            }
+            if let Ok(reports) = shown.answer {
+                untold.retain(|(_, wrong)| {
+                    holds(*wrong, shown.before, shown.event, reports, shown.after)
+                });
+            }
+        });
+        untold.into_iter().map(|(name, _)| name).collect()
+    }
+
+    #[test]
+    fn wrong_versions_are_told_apart_and_the_rule_is_not() {
+        for seed in [1, 2, 3] {
+            for step in [50, 100] {
+                let names = untold(seed, step, 50_000);
+                assert_eq!(names, [NAME], "seed {seed}, step {step}");
+            }
+        }
+    }
+
+    /// Without owners the versions that differ about firms alone are all alike, and so is
+    /// matching from before No. 7.
+    #[test]
+    fn without_owners_nothing_but_owner_0_as_a_firm_is_told_apart() {
+        let mut untold = [&OTHER_FIRMS[..], &OTHER_ANSWERS, &OTHER_MOMENTS].concat();
+        show_all(1, 50_000, |shown| {
+            if !is_without_owners(shown.before, shown.event) {
+                return;
+            }
+            if let Ok(reports) = shown.answer {
+                untold.retain(|(_, wrong)| {
+                    holds(*wrong, shown.before, shown.event, reports, shown.after)
+                });
+            }
+        });
+        let all = OTHER_FIRMS.len() + OTHER_ANSWERS.len() + OTHER_MOMENTS.len();
+        assert_eq!(untold.len(), all - 1);
+        assert!(untold.iter().all(|(name, _)| *name != OTHER_FIRMS[0].0));
+    }
+}
