@@ -79,6 +79,7 @@ pub fn check(
 mod tests {
     use super::*;
     use crate::model::{Order, CENT};
+    use crate::shown::show_all;
 
     fn buy(id: u32, price: u32, owner: u32) -> Order {
         Order {
@@ -163,6 +164,43 @@ mod tests {
             );
             assert_eq!(answer.is_ok(), sound);
             assert_eq!(answer == Err(Refusal::VenueRecord), !sound);
+        }
+    }
+
+    /// Whether an owner may stand in a venue record.
+    type MayStand = fn(u32) -> bool;
+
+    const RULE: &str = "the rule";
+
+    /// The rule, and wrong versions of it.
+    const VERSIONS: [(&str, MayStand); 7] = [
+        (RULE, |owner| owner <= 65_535),
+        ("65,536 too", |owner| owner <= 65_536),
+        ("not 65,535", |owner| owner < 65_535),
+        ("not 0", |owner| (1..=65_535).contains(&owner)),
+        ("a byte", |owner| owner <= 255),
+        ("signed", |owner| owner as i32 <= 65_535),
+        ("any", |_| true),
+    ];
+
+    /// Streams tell each wrong version within so many events.
+    #[test]
+    fn wrong_owners_of_records_are_told_apart_and_the_rule_is_not() {
+        for seed in [1, 2, 3] {
+            let mut untold = VERSIONS.to_vec();
+            show_all(seed, 50_000, |shown| {
+                let record = shown.before;
+                if !shown.first || !without_owners(record).is_sound() {
+                    return;
+                }
+                let is_sound = shown.answer != Err(Refusal::VenueRecord);
+                untold.retain(|(_, may_stand)| {
+                    let mut owners = record.orders.iter().map(|order| order.owner);
+                    owners.all(may_stand) == is_sound
+                });
+            });
+            let names: Vec<&str> = untold.into_iter().map(|(name, _)| name).collect();
+            assert_eq!(names, [RULE], "seed {seed}");
         }
     }
 }

@@ -114,11 +114,7 @@ pub fn spoil_record(rng: &mut Rng, venue: &mut Venue) {
         }
         8..14 => spoil_step(rng, venue),
         14..24 => spoil_price(rng, venue),
-        24..32 if len > 0 => {
-            let (odd, low) = (odd_owner(rng), rng.between(1, 3));
-            let owner = rng.pick(&[65_536, u32::MAX, 65_536 + low, odd]);
-            venue.orders[rng.place(len)].owner = owner;
-        }
+        24..32 if len > 0 => venue.orders[rng.place(len)].owner = bad_owner(rng),
         _ if len > 0 => {
             let (at, any) = (rng.place(len), rng.place(len));
             let other = rng.pick(&[at.saturating_sub(1), any]);
@@ -137,6 +133,12 @@ fn spoil_step(rng: &mut Rng, venue: &mut Venue) {
     };
     let odd = odd_step(rng);
     venue.step = rng.pick(&[other, other, odd]);
+}
+
+/// An owner that breaks a record, or an odd one, which may not.
+fn bad_owner(rng: &mut Rng) -> u32 {
+    let (odd, low) = (odd_owner(rng), rng.between(1, 3));
+    rng.pick(&[65_536, u32::MAX, 65_536 + low, odd])
 }
 
 /// Puts a number in one place where a price or a bid stands: mostly one that is

@@ -111,6 +111,24 @@ impl Entry {
         }
     }
 
+    /// Kind 1, or kind 6 where it has an owner.
+    fn numbers(&self) -> Numbers {
+        let Entry {
+            id,
+            mark,
+            price,
+            shares,
+            show,
+            life,
+            slide,
+            owner,
+        } = *self;
+        match owner {
+            None => Numbers::new([1, id, mark, price, shares, show, life, slide]),
+            Some(owner) => Numbers::new([6, id, mark, price, shares, show, life, slide, owner]),
+        }
+    }
+
     pub fn is_market(&self) -> bool {
         self.question().is_market()
     }
@@ -170,16 +188,7 @@ impl Numbers {
 impl Event {
     pub fn numbers(&self) -> Numbers {
         match *self {
-            Event::Entry(e) => {
-                let fields = [e.id, e.mark, e.price, e.shares, e.show, e.life, e.slide];
-                let [id, mark, price, shares, show, life, slide] = fields;
-                match e.owner {
-                    None => Numbers::new([1, id, mark, price, shares, show, life, slide]),
-                    Some(owner) => {
-                        Numbers::new([6, id, mark, price, shares, show, life, slide, owner])
-                    }
-                }
-            }
+            Event::Entry(entry) => entry.numbers(),
             Event::Cancel { id } => Numbers::new([2, id]),
             Event::Bid { price } => Numbers::new([3, price]),
             Event::Tape { price } => Numbers::new([4, price]),
