@@ -235,6 +235,7 @@ fn judge_shares(tally: &Tally, left: u32) -> Result<(), Breach> {
 #[cfg(test)]
 mod tests {
     use super::*;
+    use crate::shown::show_all;
 
     const ON: Event = Event::Tape { price: 90_000 };
 
@@ -406,5 +407,80 @@ mod tests {
             sell: 91_000,
         };
         assert_eq!(judged, Err(crossed));
+    }
+
+    /// "Shares cancelled so count as cancelled", and kind 6 starts a tally like kind 1
+    /// (E4): a sale meets its own firm's buy and then another's.
+    #[test]
+    fn own_orders_that_are_cancelled_have_tallies() {
+        let owned = |id, mark, owner| match entry(id, mark, 91_000) {
+            Event::Entry(entry) => Event::Entry(Entry {
+                owner: Some(owner),
+                ..entry
+            }),
+            other => other,
+        };
+        let start = || {
+            let mut account = at_bid(0);
+            for (id, owner) in [(1, 7), (2, 8)] {
+                let entered = account.take(&owned(id, 0, owner), &[accepted(id, 91_000)]);
+                assert_eq!(entered, Ok(()));
+            }
+            let buys = [rest(1, 91_000), rest(2, 91_000)];
+            assert_eq!(account.judge(buys.into_iter()), Ok(()));
+            account
+        };
+        let cancelled = |shares| Report::Cancelled {
+            id: 1,
+            shares,
+            cause: 5,
+        };
+        let sale = [accepted(3, 91_000), cancelled(5), sold(3, 91_000)];
+        let mut account = start();
+        assert_eq!(account.take(&owned(3, 1, 7), &sale), Ok(()));
+        assert_eq!(account.judge([].into_iter()), Ok(()));
+        let quietly = [sale[0], sale[2]];
+        let short = [sale[0], cancelled(4), sale[2]];
+        for wrong in [&quietly[..], &short] {
+            let mut account = start();
+            assert_eq!(account.take(&owned(3, 1, 7), wrong), Ok(()));
+            assert_eq!(account.judge([].into_iter()), Err(Breach::ShareSum(1)));
+        }
+    }
+
+    /// How streams break the law if the account isn't given some reports; the first
+    /// breach within so many events.
+    fn first_breach(seed: u64, events: u32, is_given: fn(&Report) -> bool) -> Option<Breach> {
+        let mut account = None;
+        let mut breach = None;
+        show_all(seed, events, |shown| {
+            if shown.first {
+                account = shown.from_open.then(|| Account::new(shown.before.close));
+            }
+            let (Some(account), Ok(reports)) = (&mut account, shown.answer) else {
+                return;
+            };
+            let given: Vec<Report> = reports.iter().copied().filter(is_given).collect();
+            let law = account.take(shown.event, &given);
+            let resting = shown.after.orders.iter().map(|order| Resting {
+                id: order.id,
+                price: order.price,
+                shares: order.shares,
+            });
+            let law = law.and_then(|()| account.judge(resting));
+            breach = breach.or(law.err());
+        });
+        breach
+    }
+
+    /// An account that doesn't count the shares of own orders as cancelled.
+    #[test]
+    fn streams_tell_an_account_without_own_orders() {
+        let is_given = |report: &Report| !matches!(report, Report::Cancelled { cause: 5, .. });
+        for seed in [1, 2, 3] {
+            let breach = first_breach(seed, 50_000, is_given);
+            assert!(matches!(breach, Some(Breach::ShareSum(_))), "{breach:?}");
+            assert_eq!(first_breach(seed, 50_000, |_| true), None);
+        }
     }
 }

@@ -58,6 +58,15 @@ fn has_bad_mark(asked: &Question) -> bool {
     asked.mark > 3
 }
 
+/// A yes or no, held against an accepted entry: whether it was filled, and whether its
+/// owner has orders in the book, so that a yes may miss.
+#[derive(Clone, Copy)]
+pub struct Held {
+    pub owner_rests: bool,
+    pub yes: bool,
+    pub filled: bool,
+}
+
 #[derive(Default)]
 pub struct Asked {
     half_cent: AtStep,
@@ -76,6 +85,9 @@ struct AtStep {
     answers: [u64; 2],
     kinds: [[u64; 2]; KINDS.len()],
     held: [u64; 2],
+    /// Entries whose owner has orders in the book: no, yes and filled, yes and not
+    /// filled.
+    own: [u64; 3],
     /// Yes by the first of several orders, after some, by all orders of the book.
     read: [u64; 3],
     /// Yes with no share to spare; no with one share missing, and on an empty book.
@@ -137,6 +149,13 @@ impl AtStep {
         let kinds = KINDS.iter().zip(self.kinds);
         lines.extend(kinds.map(|((name, _), counts)| (*name, by_answer(counts))));
         lines.push(("held against an accepted entry", by_answer(self.held)));
+        let [no, filled, missed] = self.own;
+        let own = [
+            (no, "no"),
+            (filled, "yes and filled"),
+            (missed, "yes and not filled"),
+        ];
+        lines.push(("an entry of a firm with orders", own.to_vec()));
         lines
     }
 }
@@ -168,8 +187,14 @@ impl Asked {
     }
 
     /// Takes the yes or no that was held against an accepted entry.
-    pub fn hold(&mut self, venue: &Venue, yes: bool) {
-        self.at_step(venue).held[usize::from(yes)] += 1;
+    pub fn hold(&mut self, venue: &Venue, held: Held) {
+        let counts = self.at_step(venue);
+        match (held.owner_rests, held.yes, held.filled) {
+            (false, yes, _) => counts.held[usize::from(yes)] += 1,
+            (true, false, _) => counts.own[0] += 1,
+            (true, true, true) => counts.own[1] += 1,
+            (true, true, false) => counts.own[2] += 1,
+        }
     }
 
     /// Takes the length of a run, held against that of a venue.

@@ -40,11 +40,30 @@ pub fn ask_any(sides: &mut Sides, rng: &mut Rng, counts: &mut Counts) -> Result<
     Ok(())
 }
 
+/// An entry that was asked for and not yet sent: the engine's answer, and whether its
+/// owner has orders in the book.
+pub struct Pending {
+    entry: Entry,
+    owner_rests: bool,
+    answer: u32,
+}
+
+/// Asks for an entry.
+pub fn ask_for(sides: &mut Sides, entry: Entry, counts: &mut Counts) -> Result<Pending, Fault> {
+    let owner_rests = fronts::owner_rests(&entry, &sides.venue);
+    let answer = ask(sides, &entry.question(), counts)?;
+    Ok(Pending {
+        entry,
+        owner_rests,
+        answer,
+    })
+}
+
 /// Holds the engine's answer to an entry's question against what the entry got from
 /// the engine: its reports in their bytes, or its refusal.
 pub fn hold(
     sides: &Sides,
-    (entry, number): (Entry, u32),
+    pending: &Pending,
     entered: Result<&[u8], Refusal>,
     counts: &mut Counts,
 ) -> Result<(), Fault> {
@@ -54,9 +73,9 @@ pub fn hold(
         Ok(Err(refusal)) => return Err(format!("reports: {refusal:?}")),
         Err(refusal) => Err(*refusal),
     };
-    let answer = engine::read_fill_answer(number);
-    if let (Ok(yes), Ok(_)) = (answer, reports) {
-        counts.asked.hold(&sides.venue, yes);
+    let answer = engine::read_fill_answer(pending.answer);
+    if let Some(held) = fronts::hold(&pending.entry, pending.owner_rests, answer, reports)? {
+        counts.asked.hold(&sides.venue, held);
     }
-    fronts::hold(&entry, answer, reports)
+    Ok(())
 }

@@ -3,10 +3,13 @@
 use crate::account::{Account, Resting};
 use crate::by_cents;
 use crate::by_limits;
+use crate::by_owners;
 use crate::conditions;
 use crate::counts::{Counts, Lent};
 use crate::document_01;
+use crate::firms::Firms;
 use crate::fronts;
+use crate::matching;
 use crate::model::{
     copy_out, depth, is_legal, permitted_price, read_record, watch_tape, write_record, Event, Fill,
     Order, OrderRecord, Question, RecordCheck, Refusal, Report, ReportWriter, Side, Venue, Watch,
@@ -27,11 +30,13 @@ pub fn run(seed: u64, events: u64) -> bool {
     sessions::run(seed, events, &mut Checked::new())
 }
 
-/// A venue under check, with the account of its events if it comes from open.
+/// A venue under check, with the account of its events if it comes from open, and with
+/// the owners of its orders as its events gave them.
 struct Checked {
     venue: Venue,
     before: Venue,
     account: Option<Account>,
+    firms: Firms,
     lent: Lent,
     rng: Rng,
 }
@@ -42,7 +47,9 @@ impl Examiner for Checked {
         let from_open = session.kind.is_from_open();
         self.venue = session.start.clone();
         self.account = from_open.then(|| Account::new(self.venue.close));
+        self.firms = Firms::start(&self.venue);
         price_rules::check_record(&self.venue)?;
+        by_owners::check_record(&self.venue)?;
         let opened = Venue::open(self.venue.step, self.venue.close);
         ensure(!from_open || opened.as_ref() == Ok(&self.venue), "open")
     }
@@ -79,6 +86,7 @@ impl Examiner for Checked {
                 counts.accept(&self.before, &event, count, &reports);
                 self.hold(&event, Ok(&reports), counts)?;
                 ensure(self.lent.keeps_from(count), "bytes behind the reports")?;
+                self.firms.take(&event, self.lent.front(count))?;
                 self.lent.restore(count);
                 ensure(count <= LEAST_BUFFER, "16,384 bytes")?;
                 self.check_accepted(&event, &reports)?;
@@ -105,6 +113,7 @@ impl Checked {
         let venue = Venue::fresh(CENT, 1);
         Checked {
             before: venue.clone(),
+            firms: Firms::start(&venue),
             venue,
             account: None,
             lent: Lent::new(),
@@ -140,15 +149,16 @@ impl Checked {
         };
         let answer = self.ask(&entry.question(), counts)?;
         let answer = answer.map(|fill| fill.in_full).map_err(Refusal::number);
-        if let (Ok(yes), Ok(_)) = (answer, entered) {
-            counts.asked.hold(&self.before, yes);
+        let own = fronts::owner_rests(entry, &self.before);
+        if let Some(held) = fronts::hold(entry, own, answer, entered)? {
+            counts.asked.hold(&self.before, held);
         }
-        fronts::hold(entry, answer, entered)
+        Ok(())
     }
 
     /// An event on a sound record does what document 01 says without market orders
-    /// and with its own step, by the same prices or by doubled ones; and keeps to the
-    /// table of phases.
+    /// and with its own step, by the same prices or by doubled ones; keeps to the
+    /// table of phases; and does what it does without owners.
     fn check_otherwise(
         &self,
         event: &Event,
@@ -160,6 +170,9 @@ impl Checked {
         conditions::check(before, event, answer)?;
         by_limits::check(before, event, buffer, answer, after)?;
         phase_table::check(before, event, buffer, answer, after)?;
+        let as_before = matching::check(before, event, answer, after)?;
+        let without_owners = by_owners::check(before, event, buffer, answer, after)?;
+        counts.withdrawals.check(as_before, without_owners);
         let by_document_01 = before.step == CENT;
         if by_document_01 {
             document_01::check(before, event, answer, after)?;

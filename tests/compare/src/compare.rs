@@ -11,9 +11,10 @@
 //! refuses a run that is too short with 16 too.
 
 use crate::applier::{Applied, Applier};
-use crate::asker;
+use crate::asker::{self, Pending};
 use crate::counts::Counts;
-use crate::model::{read_record, Entry, Event, Refusal, Report, Venue, LEAST_BUFFER};
+use crate::firms::Firms;
+use crate::model::{read_record, Event, Refusal, Report, Venue, LEAST_BUFFER};
 use crate::observe::Observer;
 use crate::replay::Replay;
 use crate::rng::Rng;
@@ -41,9 +42,11 @@ pub fn same<T: PartialEq + std::fmt::Debug>(what: &str, engine: T, model: T) -> 
     }
 }
 
-/// Both sides, and what they are lent.
+/// Both sides, and what they are lent; and the owners of the engine's orders as the events
+/// that it accepted gave them.
 struct Pair {
     sides: Sides,
+    firms: Firms,
     applier: Applier,
     observer: Observer,
     replay: Replay,
@@ -52,8 +55,10 @@ struct Pair {
 
 impl Pair {
     fn new() -> Self {
+        let sides = Sides::new();
         Pair {
-            sides: Sides::new(),
+            firms: Firms::start(&sides.venue),
+            sides,
             applier: Applier::new(),
             observer: Observer::new(),
             replay: Replay::new(),
@@ -73,6 +78,7 @@ impl Pair {
             (Ok((event, _)), Ok(count)) => {
                 let reports = Report::read_all(&applied.bytes);
                 let reports = reports.map_err(|refusal| format!("reports: {refusal:?}"))?;
+                self.firms.take(&event, &applied.bytes)?;
                 counts.accept(&before, &event, count, &reports);
             }
         }
@@ -90,13 +96,11 @@ impl Pair {
         asker::ask_any(&mut self.sides, &mut self.rng, counts)
     }
 
-    /// Asks for some entries whether they would fill. Gives the entry and the
-    /// engine's answer.
-    fn ask(&mut self, call: &Call, counts: &mut Counts) -> Result<Option<(Entry, u32)>, Fault> {
+    /// Asks for some entries whether they would fill.
+    fn ask(&mut self, call: &Call, counts: &mut Counts) -> Result<Option<Pending>, Fault> {
         match read_record(call.record, 0) {
             Ok((Event::Entry(entry), _)) if self.rng.one_in(ENTRIES_A_QUESTION) => {
-                let answer = asker::ask(&mut self.sides, &entry.question(), counts)?;
-                Ok(Some((entry, answer)))
+                asker::ask_for(&mut self.sides, entry, counts).map(Some)
             }
             _ => Ok(None),
         }
@@ -108,6 +112,7 @@ impl Examiner for Pair {
     fn start(&mut self, seed: u64, session: &Session, counts: &mut Counts) -> Result<(), Fault> {
         self.rng = Rng::new(!seed);
         self.sides.start(&mut self.rng, session, counts)?;
+        self.firms = Firms::start(&self.sides.venue);
         self.replay.start(&self.sides);
         self.look(counts)
     }
@@ -130,7 +135,7 @@ impl Examiner for Pair {
         }
         if let Some(asked) = asked {
             let entered = applied.answer.map(|_| &applied.bytes[..]);
-            asker::hold(&self.sides, asked, entered, counts)?;
+            asker::hold(&self.sides, &asked, entered, counts)?;
         }
         self.replay.gather(call.record, &applied);
         if self.rng.one_in(EVENTS_A_LOOK) {

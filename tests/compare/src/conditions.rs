@@ -180,10 +180,10 @@ mod tests {
         wrong
     }
 
-    /// Codes up to one more or less, narrower than 32 bits or signed; and slides on
-    /// too many marks or on too few.
+    /// Codes and owners up to one more or less, narrower than 32 bits or signed; slides
+    /// on too many marks or on too few; and an owner asked of kind 1.
     fn other_codes() -> Vec<Wrong> {
-        let wrong: [(usize, Breaks); 24] = [
+        let wrong: [(usize, Breaks); 32] = [
             (2, |entry, _| entry.mark > 4),
             (2, |entry, _| entry.mark > 2),
             (2, |entry, _| entry.mark as u8 > 3),
@@ -208,6 +208,21 @@ mod tests {
             (6, |entry, _| entry.slide != 0 && entry.mark & 1 == 1),
             (6, |entry, _| entry.slide != 0 && entry.mark % 3 == 0),
             (6, |entry, _| entry.slide > 1 && entry.mark != 2),
+            (7, |entry, _| matches!(entry.owner, Some(65_536..))),
+            (7, |entry, _| matches!(entry.owner, Some(0 | 65_537..))),
+            (7, |entry, _| matches!(entry.owner, Some(0 | 65_535..))),
+            (7, |entry, _| matches!(entry.owner, Some(0 | 1 | 65_536..))),
+            (7, |entry, _| matches!(entry.owner, Some(0 | 256..))),
+            (7, |entry, _| {
+                matches!(entry.owner, None | Some(0 | 65_536..))
+            }),
+            (7, |entry, _| {
+                entry.owner.is_some_and(|owner| owner as u16 == 0)
+            }),
+            (7, |entry, _| {
+                let signed = entry.owner.map(|owner| owner as i32);
+                matches!(signed, Some(0 | 65_536..))
+            }),
         ];
         let versions = wrong.into_iter().enumerate();
         versions

@@ -10,13 +10,14 @@ use crate::model::{Event, Refusal, Report, Venue, Watch};
 use crate::refused_entries::RefusedEntries;
 use crate::rng::Rng;
 use crate::streams::{Kind, Session, MOST_BUFFER};
+use crate::withdrawals::Withdrawals;
 use std::fmt;
 
 /// How many differences are printed in full.
 const MOST_PRINTED: u64 = 10;
 
 /// What an event may be refused with, its record included.
-const OF_EVENTS: [usize; 16] = [1, 2, 3, 4, 5, 6, 7, 8, 9, 10, 11, 12, 16, 18, 19, 20];
+const OF_EVENTS: [usize; 17] = [1, 2, 3, 4, 5, 6, 7, 8, 9, 10, 11, 12, 16, 18, 19, 20, 21];
 
 /// How often a call was accepted, and how often refused with which number.
 #[derive(Default)]
@@ -60,6 +61,7 @@ pub struct Counts {
     refused_entries: RefusedEntries,
     pub asked: Asked,
     pub falls: Falls,
+    pub withdrawals: Withdrawals,
     #[cfg(feature = "engine")]
     host: HostCounts,
 }
@@ -100,6 +102,8 @@ impl Counts {
         self.market_orders.start(&session.start);
         self.half_cents.start(session);
         self.falls.start(&session.start);
+        let from_open = session.kind.is_from_open();
+        self.withdrawals.start(&session.start, from_open);
     }
 
     /// A record that can't be read.
@@ -122,6 +126,7 @@ impl Counts {
         self.market_orders.accept(before, event, reports);
         self.half_cents.accept(before, event, reports);
         self.falls.accept(before, event, reports);
+        self.withdrawals.accept(before, event, reports);
         self.most_bytes = self.most_bytes.max(bytes);
         for report in reports {
             match report {
@@ -296,6 +301,7 @@ impl fmt::Display for Counts {
         writeln!(f, "{}", self.refused_entries)?;
         writeln!(f, "{}", self.asked)?;
         writeln!(f, "{}", self.falls)?;
+        writeln!(f, "{}", self.withdrawals)?;
         #[cfg(feature = "engine")]
         if self.host.copies.accepted > 0 {
             write!(f, "{}", self.host)?;

@@ -1,6 +1,6 @@
 //! Days in words, with the lines that the program prints for each event.
 
-use crate::model::{write_number, LONGEST_NUMBER};
+use crate::model::{write_number, Event, RecordCheck, Report, Venue, LEAST_BUFFER, LONGEST_NUMBER};
 use crate::program::play;
 
 /// An event, its kind as a word, and its lines.
@@ -17,6 +17,7 @@ pub fn push_event(input: &mut Vec<u8>, event: &str) {
     for word in event.split(' ') {
         let number = match word {
             "entry" => 1,
+            "owned" => 6,
             "cancel" => 2,
             "bid" => 3,
             "tape" => 4,
@@ -45,6 +46,20 @@ pub fn assert_day(step: u32, day: &[Played]) {
         }
         assert_eq!(play(step, &input), expected, "{event} at step {step}");
     }
+}
+
+/// The lines of an event that a venue takes.
+pub fn lines_after(venue: &mut Venue, event: &Event) -> Vec<String> {
+    let mut buffer = vec![0; LEAST_BUFFER];
+    let answer = venue.apply(event, &mut buffer, RecordCheck::Done);
+    let count = answer.expect("the venue takes the event");
+    let reports = Report::read_all(&buffer[..count]).expect("reports");
+    let line = |report: &Report| {
+        let numbers = report.numbers();
+        let words: Vec<String> = numbers.as_slice().iter().map(u32::to_string).collect();
+        words.join(" ")
+    };
+    reports.iter().map(line).collect()
 }
 
 /// The restriction is on, and the bid is 91,000.

@@ -30,8 +30,9 @@ const ORDER_WORDS: usize = (VENUE_WORDS - HEADER_WORDS) / PLACES;
 /// The places of the count of orders and of the layout's number.
 pub const COUNT_AT: usize = 0;
 pub const LAYOUT_AT: usize = HEADER_WORDS - 1;
-/// The flags of an order: adjusted, used, clear, market.
+/// The flags of an order, and their place: adjusted, used, clear, market.
 pub const FLAGS: usize = 4;
+const FLAGS_AT: usize = 10;
 
 // The calls of include/venue.h; a slice is a pointer and a length.
 extern "C" {
@@ -235,7 +236,7 @@ pub fn fresh_words(venue: &Venue) -> Vec<u32> {
     words
 }
 
-/// The layout of an order, whose last four words are flags.
+/// The layout of an order: a word a field, flags before the owner.
 fn words_of(order: &Order) -> [u32; ORDER_WORDS] {
     [
         order.id,
@@ -252,6 +253,7 @@ fn words_of(order: &Order) -> [u32; ORDER_WORDS] {
         order.used.into(),
         order.clear.into(),
         order.market.into(),
+        order.owner,
     ]
 }
 
@@ -285,5 +287,5 @@ pub fn used(words: &[u32]) -> &[u32] {
 
 /// The place of a flag word of an order, by the order's and the flag's number.
 pub fn flag_at(order: usize, flag: usize) -> usize {
-    HEADER_WORDS + order * ORDER_WORDS + ORDER_WORDS - FLAGS + flag
+    HEADER_WORDS + order * ORDER_WORDS + FLAGS_AT + flag
 }

@@ -2,8 +2,8 @@
 //! made-up records, where the pass of a second fall has something to do. From open
 //! it has nothing: in phase 2 every order came in restricted.
 
-use crate::days::{assert_day, Played};
-use crate::model::{Event, Order, RecordCheck, Report, Venue, CENT, HALF_CENT, LEAST_BUFFER};
+use crate::days::{assert_day, lines_after, Played};
+use crate::model::{Event, Order, Venue, CENT, HALF_CENT};
 
 fn assert_day_at_both_steps(day: &[Played]) {
     assert_day(CENT, day);
@@ -255,16 +255,8 @@ fn made_up(step: u32, phase: u32) -> Venue {
 
 /// The lines and the phase after a tape price.
 fn after_tape(mut venue: Venue, price: u32) -> (Vec<String>, u32) {
-    let mut buffer = vec![0; LEAST_BUFFER];
-    let answer = venue.apply(&Event::Tape { price }, &mut buffer, RecordCheck::Done);
-    let count = answer.expect("a sound record takes a legal price");
-    let reports = Report::read_all(&buffer[..count]).expect("reports");
-    let line = |report: &Report| {
-        let numbers = report.numbers();
-        let words: Vec<String> = numbers.as_slice().iter().map(u32::to_string).collect();
-        words.join(" ")
-    };
-    (reports.iter().map(line).collect(), venue.phase)
+    let lines = lines_after(&mut venue, &Event::Tape { price });
+    (lines, venue.phase)
 }
 
 /// The pass of the record above: the hidden short goes to the permitted price and

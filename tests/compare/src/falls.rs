@@ -1,6 +1,7 @@
 //! What a run counts of tape prices and watches by the phase that they meet, so that
 //! its end shows that document 02's No. 6 was reached.
 
+use crate::by_owners::withdrawn;
 use crate::document_01::triggers;
 use crate::ladder::Ladder;
 use crate::model::{Event, Order, Report, Venue, Watch, CENT, OPT_OUT, SHORT};
@@ -42,7 +43,7 @@ fn has(venue: &Venue, is_such: fn(&Order) -> bool) -> bool {
 /// What the pass of a second fall did.
 type Does = (&'static str, fn(&[Report]) -> bool);
 
-const DOES: [Does; 5] = [
+const DOES: [Does; 6] = [
     ("nothing", |reports| reports.len() == 1),
     ("moved or cancelled orders", |reports| reports.len() > 1),
     ("moved", |reports| {
@@ -53,9 +54,13 @@ const DOES: [Does; 5] = [
         let mut reports = reports.iter();
         reports.any(|report| matches!(report, Report::Executed { .. }))
     }),
-    ("cancelled", |reports| {
+    ("cancelled opt-outs", |reports| {
         let mut reports = reports.iter();
-        reports.any(|report| matches!(report, Report::Cancelled { .. }))
+        reports.any(|report| matches!(report, Report::Cancelled { cause: 3, .. }))
+    }),
+    ("cancelled own orders", |reports| {
+        let mut reports = reports.iter();
+        reports.any(|report| withdrawn(report).is_some())
     }),
 ];
 

@@ -2,6 +2,7 @@
 //! an entry says of the answer that was given before it. No formula here but the
 //! record check is the model's.
 
+use crate::asked::Held;
 use crate::conditions::{refusal_of, Condition, CONDITIONS};
 use crate::model::{Entry, Fill, Order, Question, Refusal, Report, Venue};
 use crate::price_rules::permitted;
@@ -133,15 +134,31 @@ pub fn check(asked: &Question, venue: &Venue, answer: Result<Fill, Refusal>) -> 
     Ok(())
 }
 
+/// Whether an entry's owner has orders in the book: "The fill question has owner 0", so
+/// it counts orders that the entry would cancel.
+pub fn owner_rests(entry: &Entry, venue: &Venue) -> bool {
+    let mut owners = venue.orders.iter().map(|order| order.owner);
+    entry
+        .owner
+        .is_some_and(|own| owners.any(|owner| owner == own))
+}
+
 /// Holds the yes or no, or the refusal's number, that was given just before an
-/// entry against what the entry got: "whether an entry would fill in full now".
+/// entry against what the entry got: "whether an entry would fill in full now". Of one
+/// whose owner has orders in the book, a no alone says something. Gives what was held
+/// against an accepted one.
 pub fn hold(
     entry: &Entry,
+    owner_rests: bool,
     answer: Result<bool, u32>,
     entered: Result<&[Report], Refusal>,
-) -> Result<(), Fault> {
+) -> Result<Option<Held>, Fault> {
+    let filled = entered.map(|reports| executed(entry.id, reports) == entry.shares);
     let holds = match entered {
-        Ok(reports) => answer == Ok(executed(entry.id, reports) == entry.shares),
+        Ok(_) => {
+            let may_miss = owner_rests && answer == Ok(true);
+            answer == filled.map_err(Refusal::number) || may_miss
+        }
         Err(Refusal::ShortBuffer | Refusal::Spent) => answer != Err(16),
         Err(
             refusal @ (Refusal::VenueRecord | Refusal::Price | Refusal::Shares | Refusal::Mark),
@@ -151,7 +168,15 @@ pub fn hold(
     ensure(
         holds,
         &format!("an answer against its entry: {answer:?} {entry:?} {entered:?}"),
-    )
+    )?;
+    Ok(match (answer, filled) {
+        (Ok(yes), Ok(filled)) => Some(Held {
+            owner_rests,
+            yes,
+            filled,
+        }),
+        _ => None,
+    })
 }
 
 /// The shares of an order that reports execute.
@@ -387,18 +412,44 @@ mod tests {
             price: 90_000,
             shares,
         };
+        let hold = |answer, entered| hold(&entry, false, answer, entered).map(|_| ());
         let (all, some) = ([execution(2), execution(3)], [execution(4)]);
         for (yes, reports) in [(true, &all[..]), (false, &some), (false, &[])] {
-            assert_eq!(hold(&entry, Ok(yes), Ok(reports)), Ok(()));
-            assert!(hold(&entry, Ok(!yes), Ok(reports)).is_err());
-            assert!(hold(&entry, Err(3), Ok(reports)).is_err());
+            assert_eq!(hold(Ok(yes), Ok(reports)), Ok(()));
+            assert!(hold(Ok(!yes), Ok(reports)).is_err());
+            assert!(hold(Err(3), Ok(reports)).is_err());
         }
-        assert_eq!(hold(&entry, Err(3), Err(Refusal::Price)), Ok(()));
-        assert!(hold(&entry, Err(4), Err(Refusal::Price)).is_err());
-        assert!(hold(&entry, Ok(true), Err(Refusal::Mark)).is_err());
-        assert_eq!(hold(&entry, Ok(true), Err(Refusal::Full)), Ok(()));
-        assert!(hold(&entry, Err(7), Err(Refusal::Full)).is_err());
-        assert_eq!(hold(&entry, Ok(false), Err(Refusal::Spent)), Ok(()));
-        assert!(hold(&entry, Err(16), Err(Refusal::Spent)).is_err());
+        assert_eq!(hold(Err(3), Err(Refusal::Price)), Ok(()));
+        assert!(hold(Err(4), Err(Refusal::Price)).is_err());
+        assert!(hold(Ok(true), Err(Refusal::Mark)).is_err());
+        assert_eq!(hold(Ok(true), Err(Refusal::Full)), Ok(()));
+        assert!(hold(Err(7), Err(Refusal::Full)).is_err());
+        assert_eq!(hold(Ok(false), Err(Refusal::Spent)), Ok(()));
+        assert!(hold(Err(16), Err(Refusal::Spent)).is_err());
+    }
+
+    /// A yes may miss where own orders are in reach; a no may not.
+    #[test]
+    fn an_entry_whose_owner_has_orders() {
+        let entry = Entry {
+            owner: Some(7),
+            ..entry_of(&BUY)
+        };
+        let all = [Report::Executed {
+            buyer: entry.id,
+            seller: 1,
+            price: 90_000,
+            shares: 5,
+        }];
+        for own in [true, false] {
+            let hold = |answer, entered| hold(&entry, own, answer, entered).map(|_| ());
+            assert_eq!(hold(Ok(true), Ok(&all)), Ok(()));
+            assert_eq!(hold(Ok(false), Ok(&[])), Ok(()));
+            assert!(hold(Ok(false), Ok(&all)).is_err());
+            assert!(hold(Err(3), Ok(&all)).is_err());
+            assert_eq!(hold(Ok(true), Ok(&[])).is_ok(), own);
+            let refused = hold(Ok(true), Err(Refusal::Owner));
+            assert_eq!(refused, Ok(()));
+        }
     }
 }

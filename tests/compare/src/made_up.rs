@@ -3,7 +3,7 @@
 use crate::model::{
     Order, Venue, CENT, HALF_CENT, HIGHEST, LOWEST, MOST_EVENTS, MOST_SHARES, PLACES, SHORT,
 };
-use crate::odd::{half_cent_price, odd_number, odd_price, odd_step};
+use crate::odd::{half_cent_price, odd_number, odd_owner, odd_price, odd_step};
 use crate::rng::Rng;
 use crate::streams::Market;
 
@@ -24,8 +24,8 @@ fn shuffle(rng: &mut Rng, numbers: &mut [u32]) {
 }
 
 /// A sound venue record that open need not reach: crossed books, prices below
-/// limits, any flags, market shorts in any phase, full books, last numbers close
-/// to their ends.
+/// limits, any flags, market shorts in any phase, own orders on both sides, full books,
+/// last numbers close to their ends.
 pub fn made_up(rng: &mut Rng, market: &Market) -> Venue {
     let most = PLACES as u32;
     let (few, some) = (rng.up_to(8), rng.up_to(most));
@@ -77,7 +77,7 @@ fn made_up_order(rng: &mut Rng, market: &Market, id: u32, stamp: u32) -> Order {
         used: rng.one_in(2),
         clear: rng.one_in(2),
         market: lowest && !rng.one_in(3),
-        owner: 0,
+        owner: market.owner(rng),
     }
 }
 
@@ -98,7 +98,7 @@ pub fn sink_shorts(rng: &mut Rng, venue: &mut Venue, market: &Market) {
 pub fn spoil_record(rng: &mut Rng, venue: &mut Venue) {
     let odd = odd_number(rng);
     let len = venue.orders.len();
-    match rng.up_to(35) {
+    match rng.up_to(43) {
         0 => venue.close = odd,
         1 => venue.phase = odd,
         2 => venue.bid = odd,
@@ -114,6 +114,7 @@ pub fn spoil_record(rng: &mut Rng, venue: &mut Venue) {
         }
         8..14 => spoil_step(rng, venue),
         14..24 => spoil_price(rng, venue),
+        24..32 if len > 0 => venue.orders[rng.place(len)].owner = bad_owner(rng),
         _ if len > 0 => {
             let (at, any) = (rng.place(len), rng.place(len));
             let other = rng.pick(&[at.saturating_sub(1), any]);
@@ -132,6 +133,12 @@ fn spoil_step(rng: &mut Rng, venue: &mut Venue) {
     };
     let odd = odd_step(rng);
     venue.step = rng.pick(&[other, other, odd]);
+}
+
+/// An owner that breaks a record, or an odd one, which may not.
+fn bad_owner(rng: &mut Rng) -> u32 {
+    let (odd, low) = (odd_owner(rng), rng.between(1, 3));
+    rng.pick(&[65_536, u32::MAX, 65_536 + low, odd])
 }
 
 /// Puts a number in one place where a price or a bid stands: mostly one that is

@@ -1,4 +1,4 @@
-//! A second implementation of the venue of document 01 and of No. 1 to No. 6 of
+//! A second implementation of the venue of document 01 and of No. 1 to No. 7 of
 //! document 02, and its comparison with the proved engine. See README.md.
 
 mod account;
@@ -12,6 +12,7 @@ mod bench_fill;
 mod bench_numbers;
 mod by_cents;
 mod by_limits;
+mod by_owners;
 #[cfg(feature = "engine")]
 mod caller;
 mod check;
@@ -32,6 +33,9 @@ mod falls;
 #[cfg(test)]
 mod fill_days;
 mod fill_vectors;
+#[cfg(test)]
+mod firm_days;
+mod firms;
 mod fronts;
 #[cfg(test)]
 mod half_cent_days;
@@ -41,6 +45,8 @@ mod made_up;
 #[cfg(test)]
 mod market_days;
 mod market_orders;
+mod matching;
+mod meetings;
 mod model;
 mod number_sides;
 mod numbers;
@@ -64,6 +70,7 @@ mod shown;
 #[cfg(feature = "engine")]
 mod sides;
 mod streams;
+mod withdrawals;
 
 use model::{CENT, HALF_CENT};
 use std::io::{self, Read, Write};

@@ -83,7 +83,8 @@ impl MarketOrders {
         }
         self.shorts[entry.slide as usize] += 1;
         let gone = reports.iter().map(|report| match report {
-            Report::Executed { shares, .. } | Report::Cancelled { shares, .. } => *shares,
+            Report::Executed { shares, .. } => *shares,
+            Report::Cancelled { id, shares, .. } if *id == entry.id => *shares,
             _ => 0,
         });
         self.rested += u64::from(gone.sum::<u32>() < entry.shares);

@@ -8,7 +8,7 @@ use crate::model::{
     copy_out, depth, permitted_price, watch_tape, OrderRecord, Refusal, Side, Venue, BUY, PLACES,
     SHORT,
 };
-use crate::odd::{any_price, any_step, any_watch, odd_number};
+use crate::odd::{any_price, any_step, any_watch, odd_number, odd_owner};
 use crate::rng::Rng;
 use crate::sessions::Fault;
 use std::ops::Range;
@@ -188,6 +188,6 @@ fn any_record(rng: &mut Rng) -> OrderRecord {
         used: rng.word(),
         clear: rng.word(),
         market: rng.word(),
-        owner: rng.word(),
+        owner: odd_owner(rng),
     }
 }

@@ -60,6 +60,27 @@ pub fn odd_code(rng: &mut Rng) -> u32 {
     ])
 }
 
+/// An owner at or over a border: none, the highest, one too high; or one that a narrower
+/// number would take for a firm, or a signed one for a number below 0.
+pub fn odd_owner(rng: &mut Rng) -> u32 {
+    let low = rng.between(1, 3);
+    let any = rng.word();
+    rng.pick(&[
+        0,
+        0,
+        1,
+        65_534,
+        65_535,
+        65_536,
+        65_536,
+        65_536 + low,
+        (1 << 31) + low,
+        u32::MAX,
+        u32::MAX,
+        any,
+    ])
+}
+
 /// A price at a border of one of the steps, or any multiple of the smaller; and
 /// as often a number next to it, which may be legal or not.
 pub fn odd_price(rng: &mut Rng) -> u32 {

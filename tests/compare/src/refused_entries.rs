@@ -1,5 +1,5 @@
 //! What a run counts of refused entries, so that its end shows that document 02's
-//! No. 3 was reached: the condition that was answered, and what else the entry
+//! No. 3 and the 21 of No. 7 were reached: the condition that was answered, and what else the entry
 //! breaks. Where each pair was reached, any other order of the conditions would have
 //! been seen, but for show and life, which share a refusal.
 
@@ -8,10 +8,12 @@ use crate::model::{Entry, Event, Refusal, Venue, CENT};
 use crate::reached::{self, smaller, Line, Named};
 use std::fmt;
 
-/// The places of the codes among the conditions: mark, show, life, slide.
+/// The places of the codes among the conditions: mark, show, life, slide; and behind
+/// them of the owner.
 const MARK: usize = 2;
 const SLIDE: usize = 5;
 const WRONG_MARK: usize = 6;
+const OWNER: usize = 7;
 
 #[derive(Default)]
 pub struct RefusedEntries {
@@ -30,6 +32,9 @@ struct AtStep {
     codes: [[u64; 3]; 4],
     /// 20 by the marks other than 2 and by the slides 1 to 3.
     slides: [[u64; 3]; 3],
+    /// 21 by the owner: 0, one too high, the highest number, and one that is a firm in
+    /// its low 16 bits.
+    owners: [u64; 4],
 }
 
 impl AtStep {
@@ -53,6 +58,7 @@ impl AtStep {
         match first {
             MARK..=SLIDE => self.take_code(first - MARK, entry),
             WRONG_MARK => self.take_slide(entry),
+            OWNER => self.take_owner(entry.owner.unwrap_or(0)),
             _ => {}
         }
     }
@@ -83,6 +89,18 @@ impl AtStep {
         self.slides[mark][entry.slide as usize - 1] += 1;
     }
 
+    fn take_owner(&mut self, owner: u32) {
+        let kinds = [
+            owner == 0,
+            owner == 65_536,
+            owner == u32::MAX,
+            matches!(owner % 65_536, 1..=3),
+        ];
+        for (count, is_kind) in self.owners.iter_mut().zip(kinds) {
+            *count += u64::from(is_kind);
+        }
+    }
+
     fn lines(&self) -> Vec<Line<String>> {
         let mut lines = Vec::new();
         for (place, condition) in CONDITIONS.iter().enumerate() {
@@ -99,11 +117,13 @@ impl AtStep {
             let slides = ["once", "no more", "opt-out"];
             lines.push((format!("20 on mark {mark}"), named(counts, slides)));
         }
+        let kinds = ["0", "65,536", "highest", "with good low bits"];
+        lines.push(("bad owner".to_owned(), named(self.owners, kinds)));
         lines
     }
 }
 
-fn named(counts: [u64; 3], names: [&'static str; 3]) -> Vec<Named> {
+fn named<const N: usize>(counts: [u64; N], names: [&'static str; N]) -> Vec<Named> {
     counts.into_iter().zip(names).collect()
 }
 

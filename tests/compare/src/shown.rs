@@ -14,6 +14,8 @@ pub struct Shown<'a> {
     pub close_before: u32,
     /// Whether it is the first that the session shows.
     pub first: bool,
+    /// Whether the session began with open.
+    pub from_open: bool,
 }
 
 /// Shows so many events, but for those that can't be read.
@@ -47,6 +49,7 @@ fn show_session(session: &mut Session, see: &mut impl FnMut(&Shown)) -> u32 {
             after: &venue,
             close_before,
             first,
+            from_open: session.kind.is_from_open(),
         });
         first = false;
         if matches!((event, answer), (Event::DayEnd { .. }, Ok(_))) {

@@ -4,17 +4,19 @@
 
 use crate::ladder::Ladder;
 use crate::made_up::{made_up, sink_shorts, spoil_record};
+use crate::meetings::meet_own;
 use crate::model::{
     read_record, write_number, write_record, Entry, Event, RecordCheck, Venue, CENT, DOLLAR,
     HALF_CENT, LEAST_BUFFER, LONGEST_NUMBER, LOWEST, MOST_SHARES, PLACES, SHORT,
 };
-use crate::odd::{near_miss, odd_code, odd_number};
+use crate::odd::{near_miss, odd_code, odd_number, odd_owner};
 use crate::rng::Rng;
 
 /// At which step and where a session trades, how far from there, and how often
 /// in a hundred events something other than an entry comes; how many of a hundred
-/// entries are market orders, and how many of twenty bids are none or the lowest.
-/// In a slump days are short and most tape prices are around the trigger.
+/// entries are market orders, and how many of twenty bids are none or the lowest;
+/// and whose the orders are. In a slump days are short and most tape prices are around
+/// the trigger.
 pub struct Market {
     pub ladder: Ladder,
     pub centre: u32,
@@ -28,12 +30,21 @@ pub struct Market {
     no_bids: u32,
     lowest_bids: u32,
     slump: bool,
+    firms: &'static [u32],
 }
 
 /// How often each mark comes: mixed, mostly shorts, hardly any short.
 const MIXED: &[u32] = &[0, 0, 0, 0, 0, 1, 2, 2, 2, 2, 3];
 const SHORTS: &[u32] = &[0, 2, 2, 2, 2, 2, 2, 2];
 const OTHERS: &[u32] = &[0, 0, 0, 1, 1, 2, 3];
+
+/// How often each owner comes, 0 for an entry of kind 1: nobody's, some of few firms and
+/// some nobody's, mostly of one firm, and owners of which a byte takes one for another or
+/// for none.
+const NO_FIRMS: &[u32] = &[];
+const FEW_FIRMS: &[u32] = &[0, 0, 1, 1, 2, 2, 3, 65_535];
+const ONE_FIRM: &[u32] = &[1, 1, 1, 1, 2, 0];
+const BY_BYTES: &[u32] = &[1, 257, 256, 512, 255, 65_535, 0];
 
 impl Market {
     fn random(rng: &mut Rng) -> Self {
@@ -46,7 +57,7 @@ impl Market {
         Market {
             ladder,
             centre: rng.pick(&centres),
-            reach: rng.pick(&[2, 5, 5, 20, 300]),
+            reach: rng.pick(&[2, 2, 5, 5, 5, 20, 300]),
             cancels: rng.pick(&[1, 8, 20]),
             bids: rng.pick(&[4, 15, 30]),
             tapes: rng.pick(if slump { &[10, 25] } else { &[2, 6] }),
@@ -60,6 +71,9 @@ impl Market {
             no_bids: rng.pick(&[1, 1, 6]),
             lowest_bids: rng.pick(&[0, 0, 1]),
             slump,
+            firms: rng.pick(&[
+                NO_FIRMS, FEW_FIRMS, FEW_FIRMS, FEW_FIRMS, ONE_FIRM, BY_BYTES,
+            ]),
         }
     }
 
@@ -78,6 +92,7 @@ impl Market {
             no_bids: 1,
             lowest_bids: 0,
             slump: false,
+            firms: NO_FIRMS,
         }
     }
 
@@ -158,7 +173,7 @@ impl Market {
         }
     }
 
-    fn entry(&self, rng: &mut Rng, venue: &Venue) -> Entry {
+    pub fn entry(&self, rng: &mut Rng, venue: &Venue) -> Entry {
         let around = match venue.bid {
             0 => self.centre,
             bid => self.ladder.rung_of(bid),
@@ -178,7 +193,23 @@ impl Market {
                 SHORT => rng.pick(&[0, 0, 1, 1, 2, 3]),
                 _ => 0,
             },
-            owner: None,
+            owner: match self.owner(rng) {
+                0 => None,
+                owner => Some(owner),
+            },
+        }
+    }
+
+    fn has_firms(&self) -> bool {
+        !self.firms.is_empty()
+    }
+
+    /// Whose an order is, 0 for nobody's. Without firms nothing is drawn, so that the
+    /// benchmark's streams stay as they were.
+    pub fn owner(&self, rng: &mut Rng) -> u32 {
+        match self.firms {
+            [] => 0,
+            firms => rng.pick(firms),
         }
     }
 
@@ -216,7 +247,7 @@ fn nonsense(rng: &mut Rng, sound: Event, venue: &Venue) -> Event {
             show: odd_number(rng),
             life: odd_number(rng),
             slide: odd,
-            owner: None,
+            owner: any_owner(rng),
         }),
         (sound, 6..8) => miss(rng, sound),
         (Event::Entry(entry), 8..) => Event::Entry(spoil_codes(rng, entry, odd, venue)),
@@ -245,9 +276,15 @@ fn miss(rng: &mut Rng, event: Event) -> Event {
     }
 }
 
+/// None, or one at or over a border.
+fn any_owner(rng: &mut Rng) -> Option<u32> {
+    let odd = odd_owner(rng);
+    rng.pick(&[None, Some(odd)])
+}
+
 fn spoil_entry(rng: &mut Rng, mut entry: Entry, odd: u32, venue: &Venue) -> Entry {
     let repeated = rng.up_to(venue.last_id);
-    match rng.up_to(8) {
+    match rng.up_to(9) {
         0 => entry.id = rng.pick(&[0, venue.last_id, odd]),
         1 => entry.id = repeated,
         2 => entry.mark = odd,
@@ -256,6 +293,7 @@ fn spoil_entry(rng: &mut Rng, mut entry: Entry, odd: u32, venue: &Venue) -> Entr
         5 => entry.show = odd,
         6 => entry.life = odd,
         7 => entry.slide = odd,
+        8 => entry.owner = Some(odd_owner(rng)),
         _ => {
             entry.mark ^= 1;
             entry.slide = rng.up_to(4);
@@ -264,8 +302,8 @@ fn spoil_entry(rng: &mut Rng, mut entry: Entry, odd: u32, venue: &Venue) -> Entr
     entry
 }
 
-/// Changes some of the codes, so that several may be bad at once, and at times
-/// what is looked at before them or after.
+/// Changes some of the codes and the owner, so that several may be bad at once, and
+/// at times what is looked at before them or after.
 fn spoil_codes(rng: &mut Rng, mut entry: Entry, odd: u32, venue: &Venue) -> Entry {
     let Entry {
         mark,
@@ -278,6 +316,9 @@ fn spoil_codes(rng: &mut Rng, mut entry: Entry, odd: u32, venue: &Venue) -> Entr
         if rng.one_in(3) {
             *code = odd_code(rng);
         }
+    }
+    if rng.one_in(3) {
+        entry.owner = Some(odd_owner(rng));
     }
     match rng.up_to(7) {
         0 => entry.price = odd,
@@ -318,7 +359,7 @@ fn damage(rng: &mut Rng, bytes: &mut Vec<u8>) {
 fn break_off(rng: &mut Rng, bytes: &mut Vec<u8>) {
     let mut number = large_number(rng);
     number.truncate(rng.place(number.len()));
-    bytes.push(rng.between(1, 5) as u8);
+    bytes.push(rng.between(1, 6) as u8);
     bytes.append(&mut number);
 }
 
@@ -385,6 +426,10 @@ pub struct Session {
     bytes: Vec<u8>,
     at: usize,
 }
+
+/// Of so many events where there are firms, on average, one is made so that an order meets
+/// its own firm's.
+const EVENTS_A_MEETING: u32 = 12;
 
 /// The longest buffer that a call lends, longer than any event may need.
 pub const MOST_BUFFER: usize = LEAST_BUFFER + 4_096;
@@ -463,6 +508,11 @@ impl Session {
             let price = self.market.ladder.near_trigger(&mut self.rng, venue.close);
             return Event::Tape { price };
         }
+        if self.market.has_firms() && self.rng.one_in(EVENTS_A_MEETING) {
+            if let Some(event) = meet_own(&mut self.rng, &self.market, venue) {
+                return event;
+            }
+        }
         let sound = self.market.event(&mut self.rng, venue);
         let nonsense_one_in = match self.kind {
             Kind::Nonsense => 2,
@@ -538,8 +588,8 @@ impl Trace {
 }
 
 /// A sound stream at a step that keeps about so many orders resting, with the
-/// restriction on, and holds so many events. It has no market orders, so that its
-/// figures can be held against those from before there were any.
+/// restriction on, and holds so many events. It has no market orders and no owners, so
+/// that its figures can be held against those from before there were any.
 pub fn trace(step: u32, seed: u64, resting: usize, events: usize) -> Trace {
     let mut rng = Rng::new(seed);
     let market = Market::steady(Ladder { step });

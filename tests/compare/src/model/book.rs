@@ -331,6 +331,32 @@ mod tests {
         }
     }
 
+    /// "The order record and copy out show the owner, 0 to 65,535 in a sound venue
+    /// record."
+    #[test]
+    fn copy_out_shows_the_owner() {
+        let owned = |id, owner| Order {
+            owner,
+            ..order(id, BUY, 1)
+        };
+        let of = |owner| Venue {
+            last_id: 2,
+            last_stamp: 2,
+            accepted: 2,
+            orders: vec![order(1, BUY, 1), owned(2, owner)],
+            ..Venue::fresh(100, 100_000)
+        };
+        let mut run = [record(9, 9, 9); 2];
+        for owner in [0, 1, 7, 65_535] {
+            assert_eq!(copy_out(&of(owner), &mut run), Ok(2));
+            assert_eq!(run.map(|record| record.owner), [0, owner]);
+        }
+        for owner in [65_536, 65_543, u32::MAX] {
+            let copied = copy_out(&of(owner), &mut run);
+            assert_eq!(copied, Err(Refusal::VenueRecord));
+        }
+    }
+
     #[test]
     fn depth_counts_displayed_shares_of_a_side_at_a_price() {
         let marks = [BUY, 1, SHORT, 3, 4, u32::MAX];
@@ -346,6 +372,12 @@ mod tests {
         };
         let sum = 256 * u64::from(u32::MAX);
         assert_eq!(depth(&[large; 256], 90_000, Side::Buy), Ok(sum));
+        // "Depth checks nothing else" (D5), so any owner counts.
+        let owned = [0, 65_535, 65_536, u32::MAX].map(|owner| OrderRecord {
+            owner,
+            ..record(1, BUY, 1)
+        });
+        assert_eq!(depth(&owned, 90_000, Side::Buy), Ok(4_000_000));
         let long = depth(&[large; 257], 90_000, Side::Buy);
         assert_eq!(long, Err(Refusal::LongRun));
     }

@@ -111,6 +111,24 @@ impl Entry {
         }
     }
 
+    /// Kind 1, or kind 6 where it has an owner.
+    fn numbers(&self) -> Numbers {
+        let Entry {
+            id,
+            mark,
+            price,
+            shares,
+            show,
+            life,
+            slide,
+            owner,
+        } = *self;
+        match owner {
+            None => Numbers::new([1, id, mark, price, shares, show, life, slide]),
+            Some(owner) => Numbers::new([6, id, mark, price, shares, show, life, slide, owner]),
+        }
+    }
+
     pub fn is_market(&self) -> bool {
         self.question().is_market()
     }
@@ -170,16 +188,7 @@ impl Numbers {
 impl Event {
     pub fn numbers(&self) -> Numbers {
         match *self {
-            Event::Entry(e) => {
-                let fields = [e.id, e.mark, e.price, e.shares, e.show, e.life, e.slide];
-                let [id, mark, price, shares, show, life, slide] = fields;
-                match e.owner {
-                    None => Numbers::new([1, id, mark, price, shares, show, life, slide]),
-                    Some(owner) => {
-                        Numbers::new([6, id, mark, price, shares, show, life, slide, owner])
-                    }
-                }
-            }
+            Event::Entry(entry) => entry.numbers(),
             Event::Cancel { id } => Numbers::new([2, id]),
             Event::Bid { price } => Numbers::new([3, price]),
             Event::Tape { price } => Numbers::new([4, price]),
@@ -430,19 +439,49 @@ mod tests {
 
     #[test]
     fn records_are_judged_left_to_right() {
-        let cases: [(&[u8], Refusal); 6] = [
+        let cases: [(&[u8], Refusal); 12] = [
             (&[0x80, 0x80, 0x80, 0x80, 0x10], Kind),
             (&[3, 0xFF, 0xFF, 0xFF, 0xFF, 0xFF], MissingByte),
             (&[0], Kind),
             (&[1, 0x80, 0x80, 0x80, 0x80, 0x10, 0x80, 0], LargeField),
             (&[1, 1, 0x80, 0, 0x80, 0x80, 0x80, 0x80, 0x10], BadNumber),
             (&[1, 1, 1], MissingByte),
+            (&[6], MissingByte),
+            (&[6, 1, 0, 9, 5, 1, 0, 0], MissingByte),
+            (&[6, 1, 0, 9, 5, 1, 0, 0, 0x80, 0], BadNumber),
+            (
+                &[6, 1, 0, 9, 5, 1, 0, 0, 0x80, 0x80, 0x80, 0x80, 0x10],
+                LargeField,
+            ),
+            (&[7, 1, 0, 9, 5, 1, 0, 0, 1], Kind),
+            (&[0x86, 0], BadNumber),
         ];
         for (bytes, refusal) in cases {
             assert_eq!(read_record(bytes, 0), Err(refusal));
         }
         let bid = [3, 0xDC, 0xC7, 5];
         assert_eq!(read_record(&bid, 0), Ok((Event::Bid { price: 91_100 }, 4)));
+    }
+
+    /// "The reader asks only for 32 bits (12), the venue for the range (21)" (F7.4).
+    #[test]
+    fn an_entry_with_an_owner_has_it_after_the_slide() {
+        let bytes = [6, 1, 2, 9, 5, 1, 0, 3, 7, 1];
+        let of = |owner| owned([1, 2, 9, 5, 1, 0, 3, owner]);
+        assert_eq!(read_record(&bytes, 0), Ok((of(7), 9)));
+        let Event::Entry(read) = of(7) else {
+            panic!("an entry");
+        };
+        assert_eq!((read.slide, read.owner), (3, Some(7)));
+        for owner in [0, 65_535, 65_536, u32::MAX] {
+            let mut bytes = [7; 20];
+            let end = write_record(&mut bytes, 1, &of(owner)).expect("room");
+            assert_eq!(bytes[..9], [7, 6, 1, 2, 9, 5, 1, 0, 3]);
+            assert_eq!(read_record(&bytes, 1), Ok((of(owner), end)));
+        }
+        let plain = entry([1, 2, 9, 5, 1, 0, 3]);
+        assert_eq!(read_record(&[1, 1, 2, 9, 5, 1, 0, 3, 7], 0), Ok((plain, 8)));
+        assert_ne!(plain, of(0));
     }
 
     #[test]
@@ -472,6 +511,10 @@ mod tests {
         Event::Entry(Entry::of(fields))
     }
 
+    fn owned(fields: [u32; 8]) -> Event {
+        Event::Entry(Entry::with_owner(fields))
+    }
+
     /// The least and the greatest fields of 1 to 5 bytes. The writer doesn't judge
     /// fields (A9).
     #[test]
@@ -488,10 +531,13 @@ mod tests {
                 just_fits(Event::Cancel { id: field }, 1 + count);
                 just_fits(Event::DayEnd { price: field }, 1 + count);
                 just_fits(entry([field; 7]), 1 + 7 * count);
+                just_fits(owned([field; 8]), 1 + 8 * count);
             }
         }
         let [one, two, three, four, five] = fields.map(|[least, _]| least);
         let all = entry([five, one, four, three, two, one, two]);
         just_fits(all, 1 + 5 + 1 + 4 + 3 + 2 + 1 + 2);
+        let all = owned([five, one, four, three, two, one, two, three]);
+        just_fits(all, 1 + 5 + 1 + 4 + 3 + 2 + 1 + 2 + 3);
     }
 }

@@ -189,20 +189,21 @@ mod tests {
         lent.assert_played(9);
     }
 
-    /// Entries with a bad mark, show, slide code and a slide on a buy: 18, 5, 19 and
-    /// 20, each in one byte behind the 0.
+    /// Entries with a bad mark, show, slide code, a slide on a buy and owner 0: 18, 5,
+    /// 19, 20 and 21, each in one byte behind the 0.
     #[test]
     fn refused_codes_in_one_call() {
-        let records: [&[u8]; 4] = [
+        let records: [&[u8]; 5] = [
             &[1, 1, 4, 9, 5, 1, 0, 0],
             &[1, 1, 0, 9, 5, 2, 0, 0],
             &[1, 1, 2, 9, 5, 1, 0, 4],
             &[1, 1, 0, 9, 5, 1, 0, 1],
+            &[6, 1, 0, 9, 5, 1, 0, 0, 0],
         ];
-        let mut lent = Lent::new(6 + LEAST_BUFFER, 4);
+        let mut lent = Lent::new(8 + LEAST_BUFFER, 5);
         assert_eq!(lent.play(&records.concat(), 0), Ok(Stop::RecordsEnd));
-        assert_eq!(lent.reports[..8], [0, 18, 0, 5, 0, 19, 0, 20]);
-        assert_eq!(lent.ends, [2, 4, 6, 8]);
+        assert_eq!(lent.reports[..10], [0, 18, 0, 5, 0, 19, 0, 20, 0, 21]);
+        assert_eq!(lent.ends, [2, 4, 6, 8, 10]);
         assert_eq!(lent.venue, Venue::fresh(100, 100_000));
     }
 
