@@ -16,10 +16,10 @@ extern "C" {
 
 /* The words of a venue. A longer run is a venue with further words behind it, which keep their content. Between the calls the words are the
    host's to copy and to store, and nobody's to change. */
-#define VENUE_WORDS 3600
+#define VENUE_WORDS 3856
 
 /* The number of the layout of these words. venue_open writes it, and words that were stored under another layout are refused with 16. */
-#define VENUE_LAYOUT 3
+#define VENUE_LAYOUT 4
 
 /* The steps that venue_open, venue_permitted_price and venue_watch take, in ten-thousandths of a dollar. Legal prices are the whole numbers from 1 to 100,000,000, from 10,000 up
    the multiples of the step alone. A bid is 0 (no bid) or a legal price up to 100,000,000 less the step. */
@@ -58,7 +58,7 @@ uint32_t venue_open(uint32_t *words, size_t words_length, uint32_t step, uint32_
    in this order:
     9  the record breaks off
    10  a number of the record is bad: a tenth byte above 1, or a last group 0 after another
-   11  the kind isn't 1 to 5
+   11  the kind isn't 1 to 6
    12  a field is above 4,294,967,295
    16  the words aren't a venue. Those that venue_open made one stay one through every call of venue_apply and
        venue_play, whatever it answers
@@ -70,6 +70,7 @@ uint32_t venue_open(uint32_t *words, size_t words_length, uint32_t step, uint32_
     5  the show or the life is above 1
    19  the slide is above 3, whatever the mark
    20  a slide other than 0 with a mark other than short, 2
+   21  the owner of an entry of kind 6 isn't 1 to 65,535
     6  the id isn't above that of the last accepted entry
     7  256 orders rest already
     8  no order rests under the id to cancel */
@@ -89,7 +90,7 @@ struct venue_progress {
 #define VENUE_REPORTS_FULL 2 /* fewer than VENUE_REPORT_BYTES bytes are left for reports */
 
 /* Plays the event records of a run one after another, from an offset on, each as venue_apply does. The bytes of the events stand one after another
-   at the front of the report buffer: of an accepted event its reports, which may be none; of a refused one two bytes, 0 and its refusal, 2 to 8 or 18 to 20. No
+   at the front of the report buffer: of an accepted event its reports, which may be none; of a refused one two bytes, 0 and its refusal, 2 to 8 or 18 to 21. No
    report begins with a byte 0. ends[i] is the offset behind the bytes of event i of the call, counted from 0; they begin at ends[i - 1], those of
    event 0 at 0. The answer is refusal * 65,536, or one of the three stops above, which are no refusals:
    16  the words aren't a venue. This is checked once, before all else; nothing is changed, progress neither
@@ -111,7 +112,8 @@ uint32_t venue_play(uint32_t *words, size_t words_length, const uint8_t *records
 /* Whether an entry with this mark, price and shares would fill in full now, and how many orders were read to tell. Nothing is changed.
    It would fill if the orders on the other side that it reaches, hidden ones too, have its shares or more. It reaches them by its working price: its limit,
    and of a short while the restriction is on the larger of its limit and the permitted price of the bid. The price 0 means market, as in an entry.
-   Show, life and slide don't matter. The orders are read in rising id, those of its own side and out of reach too, up to the one that completes the
+   Show, life and slide don't matter. It is asked for owner 0, so it tells of entries of kind 1: one of kind 6 with the same numbers cancels orders of its own
+   owner that it meets, and may fill less. The orders are read in rising id, those of its own side and out of reach too, up to the one that completes the
    shares, or all of them; a book without orders is a no with 0 read.
    The answer is the orders read, at most VENUE_ORDERS, and VENUE_YES more for a yes; or refusal * 65,536. The refusals, in the order of an entry; a full book and
    the events accepted don't matter:
@@ -141,7 +143,7 @@ uint64_t venue_record_check(const uint8_t *bytes, size_t length);
    0 on refusal: the step is neither VENUE_CENT nor VENUE_HALF_CENT (17), or the number isn't a bid at this step (3). */
 uint32_t venue_permitted_price(uint32_t step, uint32_t bid);
 
-/* The record of an order: 14 words of 32 bits, 56 bytes with no padding, so that any bytes are a record. In what venue_copy_out writes, the price is
+/* The record of an order: 15 words of 32 bits, 60 bytes with no padding, so that any bytes are a record. In what venue_copy_out writes, the price is
    the present one and the shares are those left. */
 struct venue_order {
     uint32_t id;
@@ -158,6 +160,7 @@ struct venue_order {
     uint32_t used;      /* 1: with slide once, re-priced to the larger of limit and entry bid; else 0 */
     uint32_t clear;     /* 1: the bid was 0 or below the present price when that price was given; else 0 */
     uint32_t market;    /* 1: a market short, which follows the bid and stays while there is none; else 0 */
+    uint32_t owner;     /* the owner of its entry, 1 to 65,535; 0 of an entry of kind 1 */
 };
 
 /* Copies the resting orders to the front of the run, in rising id, and answers how many there are; the records behind them keep their content.
