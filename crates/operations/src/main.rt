@@ -185,7 +185,10 @@ fn copies() -> [OrderRecord; 4] {
     send(words, Event::Bid(91_000));
     send(words, Event::Tape(90_000));
     enter(words, 1, 2, 90_500, 500, 1);
-    send(words, Event::OwnedEntry(entry(2, 0, 90_000, 200, 1), 65_535));
+    send(
+        words,
+        Event::OwnedEntry(entry(2, 0, 90_000, 200, 1), 65_535),
+    );
     enter(words, 3, 1, 91_200, 300, 0);
     let run = try_copy(words);
     enter(words, 4, 2, 0, 100, 1);

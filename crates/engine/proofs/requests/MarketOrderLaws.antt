@@ -33,7 +33,7 @@ use Rattle.engine.specs.rules.Market.{marketAfter, restricted, permitted
 use Rattle.engine.specs.rules.Working.{limitOf, followsBid, lifeOf, workingPrice, orderOf, remainder, afterRemainder, work}
 use Rattle.engine.specs.rules.Pass.{maySlide, moveOf, afterMove, passOne, passOver}
 use Rattle.engine.specs.rules.Venue.{Venue, thePass, entering, effectOfEntry, effectOfCancel, effectOfDayEnd, effectOf}
-use Rattle.engine.specs.rules.Refusals.{refusalOfTerms, refusalOfEntry, refusal}
+use Rattle.engine.specs.rules.Refusals.{firstOf, refusalOfTerms, refusalOfEntry, refusalOfKind, refusal}
 use Rattle.engine.specs.rules.Run.{Step, stepUnless, step}
 use Rattle.engine.specs.rules.Layout.{venueOf, stepIn}
 use Rattle.engine.specs.steps.Steps.{moveInPass}
@@ -235,7 +235,7 @@ unfolding moveOf maySlide
 moves-as-before m o t = rw (T-false (o .market && eqb (m .bid) 0) t, and-last (o .adjusted))
 
 pub entries-as-before : EntriesAsBefore
-unfolding refusalOfEntry refusalOfTerms entering effectOfEntry orderOf workingPrice limitOf lifeOf followsBid pick
+unfolding refusalOfKind refusalOfEntry refusalOfTerms firstOf entering effectOfEntry orderOf workingPrice limitOf lifeOf followsBid pick
 entries-as-before v e n =
     let z : eqb (e .price) 0 ≡ false = ne-eqb (e .price) 0 n in
-    record { refusal = λ ofOwner. rw z; effect = λ k. rw z }
+    record { refusal = rw z; owned = λ k. rw z; effect = λ k. rw z }

@@ -15,7 +15,7 @@ use Rattle.book.specs.declared.Order.{Order}
 use Rattle.book.specs.rules.Orders.{find, without}
 use Rattle.book.specs.rules.Matching.{Execution, Happening, traded, execution, Meeting, trading, withdrawing, sameOwner, meeting, Matched, matching}
 use Rattle.book.specs.rules.Words.{isBook}
-use Rattle.book.proofs.definitions.OrderLaws.{idOf, Distinct, taken-all, mem-taken, without-all, without-differ, Found, find-found}
+use Rattle.book.proofs.definitions.OrderLaws.{idOf, Other, Distinct, taken-all, mem-taken, without-all, without-other, without-differ, Found, find-found}
 use Rattle.book.proofs.definitions.CounterpartyLaws.{Reached}
 use Rattle.book.proofs.definitions.MeetingLaws.{execution-by, trading-known, withdrawing-known, meeting-by-owner}
 use Rattle.book.proofs.definitions.MatchingLaws.{afterTrade-all, afterTrade-differ, matching-keeps}
@@ -40,9 +40,9 @@ use Rattle.engine.specs.rules.Layout.{venueOf, stepIn}
 use Rattle.engine.specs.steps.Steps.{moveInPass}
 use Rattle.engine.specs.claims.Account.{setAt}
 use Rattle.engine.specs.claims.Calls.{AppliedCall, Chain}
-use Rattle.engine.specs.claims.Owners.{Owners, noOwners, ownersAfter, worksNow, readOwners, ownersBy, ownersFrom, ownersOf, FirmsApart, NoFirmTradesWithItself, OwnersShown, OwnersAreShown, FirmsApartInCalls, NoFirmTradesWithItselfInCalls, workBefore, enteringBefore, afterMoveBefore, turnBefore, passBefore, effectBefore, stepUnlessBefore, stepBefore, Unowned, NamesNoOwner, EventAsBefore, UnownedAsBefore, stepInBefore, UnownedCallsAsBefore}
+use Rattle.engine.specs.claims.Owners.{Owners, noOwners, ownersAfter, worksNow, readOwners, ownersBy, ownersFrom, ownersOf, FirmsApart, NoFirmTradesWithItself, OwnersShown, OwnersAreShown, FirmsApartInCalls, NoFirmTradesWithItselfInCalls, workBefore, enteringBefore, afterMoveBefore, turnBefore, passBefore, effectBefore, stepUnlessBefore, stepBefore, Unowned, NamesNoOwner, UnownedAsBefore, stepInBefore, UnownedCallsAsBefore}
 use Rattle.engine.proofs.refinement.RefusalLaws.{EntryAllowed, Allowed, NotRefused, Unless, refusal-known}
-use Rattle.engine.proofs.refinement.OpeningLaws.{opening-known, opening-gives, opened-book, opened-venue}
+use Rattle.engine.proofs.refinement.OpeningLaws.{opening-known, opened-book, opened-venue}
 use Rattle.engine.proofs.demand3.MarketLaws.{HasPermitted}
 use Rattle.engine.proofs.demand3.TallyLaws.{setAt-same, setAt-other}
 use Rattle.engine.proofs.demand3.WorkingKeeps.{afterRemainder-all, work-all}
@@ -77,6 +77,7 @@ readHappening c x = readOwners c (happened x)
 record Works (w : Order) (os : List Order) (c : Owners) : Type 0 where
   distinct : Distinct os
   own : Knows c w
+  apart-ids : All (Other (w .id)) os
   others : All (Knows c) os
   working : c.working ≡ w.id
   apart : FirmsApart c
@@ -101,6 +102,7 @@ module _ (w o : Order) (os : List Order) (c : Owners) (r : Reached w os (some o)
       rw (trading-known w o os) record {
         distinct = afterTrade-differ q (r .0) (i .distinct) idOf refl (i .distinct);
         own = i .own;
+        apart-ids = afterTrade-all q (r .0) (i .distinct) (Other (w .id)) (λ z s l h. h) (i .apart-ids);
         others = afterTrade-all q (r .0) (i .distinct) (Knows c) (λ z s l h. h) (i .others);
         working = i .working;
         apart = execution-apart q t;
@@ -110,13 +112,15 @@ module _ (w o : Order) (os : List Order) (c : Owners) (r : Reached w os (some o)
   unfolding pick
   withdrawing-works t =
       let f = one-firm w o t in
-      let named : w.owner ≡ c .owner (c .working) = i .own ∙ ap (c .owner) (sym (i .working)) in
+      let shown : w.owner ≡ c .owner (c .working) = i .own ∙ ap (c .owner) (sym (i .working)) in
+      let other : Other (w .id) o = taken-all (Other (w .id)) (mem-taken (r .0) (i .distinct)) (i .apart-ids) .0 in
       rw (withdrawing-known w o os) record {
         distinct = without-differ idOf (o .id) os (i .distinct);
         own = i .own;
+        apart-ids = without-all (Other (w .id)) (o .id) os (i .apart-ids);
         others = without-all (Knows c) (o .id) os (i .others);
         working = i .working;
-        apart = record { trades = i .apart .trades; withdrawals = ((omega (arith, f .0, named), sym named ∙ f .1 ∙ met), i .apart .withdrawals) };
+        apart = record { trades = i .apart .trades; withdrawals = ((λ e. other (e ∙ i .working), omega (arith, f .0, shown), sym shown ∙ f .1 ∙ met), i .apart .withdrawals) };
       }
 
   meeting-works : let x : Meeting = meeting w o os in Works (x .left) (x .orders) (readHappening c (x .happening))
@@ -157,6 +161,7 @@ afterMove-agrees (Reprice p u) o os s c d m i =
     (record {
       distinct = without-differ idOf (o .id) os d;
       own = taken-all (Knows c) (mem-taken m d) (i .known) .0;
+      apart-ids = without-other (o .id) os;
       others = without-all (Knows n) (o .id) os (i .known);
       working = refl;
       apart = record { trades = i .apart .trades; withdrawals = i .apart .withdrawals };
@@ -201,11 +206,13 @@ entry-agrees : (v : Venue) (e : Entry) (k : ℕ) (c : Owners) → EntryAllowed v
 unfolding effectOfEntry entering orderOf
 entry-agrees v e k c a g h =
     let n : Owners = worksNow (e .id) (named e k c) in
+    let new : All (Other (e .id)) (v .orders) = book-others (g .book) (a .place .newId) in
     work-agrees (orderOf (v .market) (v .lastStamp + 1) k e) (v .orders) n
     (record {
       distinct = book-distinct (g .book);
       own = sym (setAt-same (e .id) k (c .owner));
-      others = all-both (λ x i z. i ∙ sym (setAt-other (e .id) k (c .owner) (x .id) z)) (v .orders) (h .known) (book-others (g .book) (a .place .newId));
+      apart-ids = new;
+      others = all-both (λ x i z. i ∙ sym (setAt-other (e .id) k (c .owner) (x .id) z)) (v .orders) (h .known) new;
       working = refl;
       apart = record { trades = h .apart .trades; withdrawals = h .apart .withdrawals };
     })

@@ -292,7 +292,7 @@ pub record FirmsPlayed (s : ℕ) : Type 0 where
   pub accountOfList :
       let c : Owners = ownersOf ((run (opened s 100_000) (map callOf firmEvents)) .answered) in
       (c .trades ≡ record { buyer = 8; seller = 7 } ∷ [])
-      × (c .withdrawals ≡ record { working = 7; withdrawn = 7 } ∷ record { working = 7; withdrawn = 7 } ∷ [])
+      × (c .withdrawals ≡ record { working = 4; withdrawn = 1; workingOwner = 7; withdrawnOwner = 7 } ∷ record { working = 4; withdrawn = 3; workingOwner = 7; withdrawnOwner = 7 } ∷ [])
 
 abbrev pub FirmsPlayedAtBoth : Type 0
 FirmsPlayedAtBoth = All FirmsPlayed (100 ∷ 50 ∷ [])

@@ -33,14 +33,17 @@ use Rattle.engine.specs.claims.Calls.{Applied, AppliedCall, Chain, answe
 
 -- The account of owners
 
--- the owners of both orders of a report 2, and those of the working order and of the order cancelled in a report 3 with cause 5
+-- the owners of both orders of a report 2
 pub record Sides : Type 0 where
   pub buyer : ℕ
   pub seller : ℕ
 
+-- a report 3 with cause 5: the ids of the working order and of the one cancelled, and their owners
 pub record Withdrawal : Type 0 where
   pub working : ℕ
   pub withdrawn : ℕ
+  pub workingOwner : ℕ
+  pub withdrawnOwner : ℕ
 
 -- owner is a column as those of the tallies: at k the owner that the accepted entry with id k named, 0 where there is none. working is the id of the working order;
 -- trades and withdrawals have the last one first
@@ -81,7 +84,7 @@ readOwners c (cancelled k q cause) =
       owner = c.owner;
       working = c.working;
       trades = c.trades;
-      withdrawals = record { working = c.owner (c .working); withdrawn = c.owner k } ∷ c.withdrawals;
+      withdrawals = record { working = c.working; withdrawn = k; workingOwner = c.owner (c .working); withdrawnOwner = c.owner k } ∷ c.withdrawals;
     })
     c
 readOwners c (repriced k p s) = worksNow k c
@@ -106,14 +109,15 @@ ownersOf xs = ownersFrom noOwners xs
 abbrev pub Apart : Sides → Type 0
 Apart t = 0 < t.buyer → t.buyer ≡ t.seller → ⊥
 
--- two orders of the same owner above 0
-abbrev pub SameFirm : Withdrawal → Type 0
-SameFirm t = (0 < t.working) × (t.working ≡ t.withdrawn)
+-- of two orders of the same owner above 0, "the resting one is cancelled": not the one that works
+abbrev pub RestingOfSameFirm : Withdrawal → Type 0
+RestingOfSameFirm t = (t.withdrawn ≡ t.working → ⊥) × (0 < t.workingOwner) × (t.workingOwner ≡ t.withdrawnOwner)
 
--- no firm trades with itself, and cause 5 meets none but a firm's own orders
+-- no firm trades with itself, and cause 5 meets none but resting orders of the working order's own firm. Ids that were never entered have owner 0 here; that
+-- there are none in reports 2 and 3 is demand 3's, whose shares entered would not add up
 pub record FirmsApart (c : Owners) : Type 0 where
   pub trades : All Apart (c .trades)
-  pub withdrawals : All SameFirm (c .withdrawals)
+  pub withdrawals : All RestingOfSameFirm (c .withdrawals)
 
 -- for every step and close that open takes and every list of events, each lent a report buffer of any length
 abbrev pub NoFirmTradesWithItself : Type 0
@@ -193,7 +197,7 @@ stepUnlessBefore none v e =
     let x : Effect = effectBefore (marketAfter e (v .market)) v e in
     record { answer = gives (x .reports); venue = venueAfter v e x }
 
--- it is refused as now
+-- it is refused as now; what kind 1 is refused for is pinned by No. 3's claim (`kindBefore`)
 abbrev pub stepBefore : Venue → Event → ℕ → Step
 stepBefore v e n = stepUnlessBefore (refusal v e n) v e
 
