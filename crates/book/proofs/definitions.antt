@@ -8,4 +8,5 @@ pub mod PriorityLaws
 pub mod MeetingLaws
 pub mod MatchingLaws
 pub mod OnlyTradingLaws
+pub mod OwnOrderLaws
 pub mod FillLaws

@@ -1,2 +1,3 @@
 -- What is claimed of the rules.
 pub mod OnlyTrading
+pub mod OwnOrders

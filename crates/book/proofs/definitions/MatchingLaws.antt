@@ -87,22 +87,26 @@ meeting-all P s w o os m d p h =
     meeting-by (λ (x : Meeting). P (x .left) × All P (x .orders)) w o os (p, without-all P (o .id) os h) (s w q p, afterTrade-all q m d P (λ z n l k. s z n k) h)
 
 -- at most n more meetings: the working order has no shares, or at most n orders rest
-abbrev Within : ℕ → Order → List Order → Type 0
+abbrev pub Within : ℕ → Order → List Order → Type 0
 Within n w os = (w.shares ≡ 0) ⊎ (length os ≤ n)
 
-meeting-within : (n : ℕ) (w o : Order) (os : List Order) → List·Memᴰ o os → Distinct os → Within (suc n) w os → Within n ((meeting w o os) .left) ((meeting w o os) .orders)
-unfolding trading withdrawing
-meeting-within n w o os m d z =
-    meeting-by (λ (x : Meeting). Within n (x .left) (x .orders)) w o os (fewer z) (go z (decLe (o .shares) (w .shares)))
+pub trading-within : (n : ℕ) (w o : Order) (os : List Order) → List·Memᴰ o os → Distinct os → Within (suc n) w os → Within n ((trading w o os) .left) ((trading w o os) .orders)
+unfolding trading
+trading-within n w o os m d z = go z (decLe (o .shares) (w .shares))
   where
-    fewer : Within (suc n) w os → Within n w (without (o .id) os)
-    fewer (inl e) = inl e
-    fewer (inr e) = inr (omega (arith, taken-length (mem-taken m d)))
-
     go : Within (suc n) w os → Dec (o.shares ≤ w.shares) → (w.shares - min (w .shares) (o .shares) ≡ 0) ⊎ (length (afterTrade o (min (w .shares) (o .shares)) os) ≤ n)
     go (inl e) y = inl (omega arith)
     go (inr e) (yes y) = inr (omega (arith, afterTrade-shorter (min (w .shares) (o .shares)) m d (omega arith)))
     go (inr e) (no y) = inl (omega arith)
+
+pub withdrawing-within : (n : ℕ) (w o : Order) (os : List Order) → List·Memᴰ o os → Distinct os → Within (suc n) w os → Within n ((withdrawing w o os) .left) ((withdrawing w o os) .orders)
+unfolding withdrawing
+withdrawing-within n w o os m d (inl e) = inl e
+withdrawing-within n w o os m d (inr e) = inr (omega (arith, taken-length (mem-taken m d)))
+
+meeting-within : (n : ℕ) (w o : Order) (os : List Order) → List·Memᴰ o os → Distinct os → Within (suc n) w os → Within n ((meeting w o os) .left) ((meeting w o os) .orders)
+meeting-within n w o os m d z =
+    meeting-by (λ (x : Meeting). Within n (x .left) (x .orders)) w o os (withdrawing-within n w o os m d z) (trading-within n w o os m d z)
 
 -- matching
 
@@ -186,13 +190,13 @@ matching-ends w os d = upTo-ends (length os) w os d (inr (omega arith))
 
 -- matching, one meeting at a time: how many more are allowed doesn't matter while it is enough
 
-abbrev unmatched : Order → List Order → Matched
+abbrev pub unmatched : Order → List Order → Matched
 unmatched w os = record { happenings = []; left = w; orders = os }
 
 abbrev pub onceMore : Happening → Matched → Matched
 onceMore x m = record { happenings = x ∷ m.happenings; left = m.left; orders = m.orders }
 
-none-within : (w o : Order) (os : List Order) → Distinct os → Within zero w os → Reached w os (some o) → ⊥
+pub none-within : (w o : Order) (os : List Order) → Distinct os → Within zero w os → Reached w os (some o) → ⊥
 none-within w o os d (inl e) r = omega (arith, r .2)
 none-within w o os d (inr e) r = omega (arith, taken-length (mem-taken (r .0) d))
 
