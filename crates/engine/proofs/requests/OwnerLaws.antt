@@ -1,25 +1,31 @@
--- No. 7: no firm trades with itself, over every list of events; and with owner 0 everywhere every event is as before. Assumes nothing.
+-- No. 7: no firm trades with itself, over every list of events; with owner 0 everywhere every event is as before; an entry trades as if its owner's orders weren't
+-- there. Assumes nothing.
 use Prim.Native.Nat.{ℕ, _+_, _<_, min}
 use native.Mathlib.Omega.{arith}
 use mathlib.Core.Path.{_≡_, refl, ap, sym, _∙_, subst}
 use mathlib.Core.Bool.{Bool, true, false, not}
 use mathlib.Core.Option.{Option, none, some}
-use mathlib.Core.List.{List, [], _∷_, _++_, map, foldl, foldl-append, foldl-map, List·Memᴰ}
+use mathlib.Core.List.{List, [], _∷_, _++_, map, foldl, foldl-append, foldl-map, append-nil, List·Memᴰ}
 use lib.Dec.{T, ltb, eqb, leb→le, le→leb, eqb→eq, T-not}
 use lib.ListN.{length}
 use Rattle.numbers.specs.Tests.{pick, All}
-use Rattle.numbers.specs.Answers.{refuses}
+use Rattle.numbers.specs.Answers.{Outcome, gives, refuses}
 use Rattle.numbers.proofs.TestLaws.{by-test, and-T, T-and, eq→T, ne→T, pick-no, all-both}
 use Rattle.prices.specs.Prices.{isStep, legal}
 use Rattle.book.specs.declared.Order.{Order}
 use Rattle.book.specs.rules.Orders.{find, without}
-use Rattle.book.specs.rules.Matching.{Execution, Happening, traded, execution, Meeting, trading, withdrawing, sameOwner, meeting, Matched, matching}
+use Rattle.book.specs.rules.Matching.{Execution, Happening, traded, withdrawn, execution, Meeting, trading, withdrawing, sameOwner, meeting, Matched, matching}
+use Rattle.book.specs.rules.Sound.{idsRise, stampsDiffer}
 use Rattle.book.specs.rules.Words.{isBook}
+use Rattle.book.specs.claims.OwnOrders.{executionsOf}
 use Rattle.book.proofs.definitions.OrderLaws.{idOf, Other, Distinct, taken-all, mem-taken, without-all, without-other, without-differ, Found, find-found}
 use Rattle.book.proofs.definitions.CounterpartyLaws.{Reached}
 use Rattle.book.proofs.definitions.MeetingLaws.{execution-by, trading-known, withdrawing-known, meeting-by-owner}
 use Rattle.book.proofs.definitions.MatchingLaws.{afterTrade-all, afterTrade-differ, matching-keeps}
+use Rattle.book.proofs.definitions.RisingLaws.{rises-idsRise}
 use Rattle.book.proofs.definitions.OnlyTradingLaws.{unowned-only-trades}
+use Rattle.book.proofs.definitions.OwnOrderLaws.{trades-as-if-alone}
+use Rattle.book.proofs.refinement.SoundBookLaws.{differ-stampsDiffer}
 use Rattle.engine.specs.declared.Market.{Market}
 use Rattle.engine.specs.declared.Entry.{Entry}
 use Rattle.engine.specs.declared.Event.{Event}
@@ -29,25 +35,27 @@ use Rattle.engine.specs.declared.Remainder.the-variants.{Filled, Cancell
 use Rattle.engine.specs.declared.Move.{Move}
 use Rattle.engine.specs.declared.Move.the-variants.{Stay, Cancel, Reprice}
 use Rattle.engine.specs.rules.Market.{marketAfter}
-use Rattle.engine.specs.rules.Reports.{Report, dayEnded}
+use Rattle.engine.specs.rules.Reports.{Report, accepted, executed, cancelled, repriced, restrictionStarts, dayEnded}
 use Rattle.engine.specs.rules.Working.{orderOf, remainder, afterRemainder, happened, work}
 use Rattle.engine.specs.rules.Pass.{atNewPrice, Effect, afterMove, passOne, passOver}
 use Rattle.engine.specs.rules.Venue.{Venue, opened, entering, effectOfEntry, effectOfCancel, thePass, restrictionReport, cancelledAtEnd, effectOfDayEnd, effectOf}
+use Rattle.engine.specs.rules.Sound.{sound}
 use Rattle.engine.specs.rules.Refusals.{refusal}
 use Rattle.engine.specs.rules.Run.{Step, stepUnless, step, Call, Run, run}
+use Rattle.engine.specs.rules.Records.{reportsBytes}
 use Rattle.engine.specs.rules.Answers.{countOf, bufferAfter}
 use Rattle.engine.specs.rules.Layout.{venueOf, stepIn}
 use Rattle.engine.specs.steps.Steps.{moveInPass}
 use Rattle.engine.specs.claims.Account.{setAt}
 use Rattle.engine.specs.claims.Calls.{AppliedCall, Chain}
-use Rattle.engine.specs.claims.Owners.{Owners, noOwners, ownersAfter, worksNow, readOwners, ownersBy, ownersFrom, ownersOf, FirmsApart, NoFirmTradesWithItself, OwnersShown, OwnersAreShown, FirmsApartInCalls, NoFirmTradesWithItselfInCalls, workBefore, enteringBefore, afterMoveBefore, turnBefore, passBefore, effectBefore, stepUnlessBefore, stepBefore, Unowned, NamesNoOwner, UnownedAsBefore, stepInBefore, UnownedCallsAsBefore}
+use Rattle.engine.specs.claims.Owners.{Owners, noOwners, ownersAfter, worksNow, readOwners, ownersBy, ownersFrom, ownersOf, FirmsApart, NoFirmTradesWithItself, OwnersShown, OwnersAreShown, FirmsApartInCalls, NoFirmTradesWithItselfInCalls, workBefore, enteringBefore, afterMoveBefore, turnBefore, passBefore, effectBefore, stepUnlessBefore, stepBefore, Unowned, NamesNoOwner, UnownedAsBefore, stepInBefore, UnownedCallsAsBefore, executionsIn, executionsAlone, TradesAsIfAlone, AloneInBytes, TradesAsIfAloneInCalls}
 use Rattle.engine.proofs.refinement.RefusalLaws.{EntryAllowed, Allowed, NotRefused, Unless, refusal-known}
-use Rattle.engine.proofs.refinement.OpeningLaws.{opening-known, opened-book, opened-venue}
+use Rattle.engine.proofs.refinement.OpeningLaws.{opening-known, opened-book, opened-venue, step-in}
 use Rattle.engine.proofs.demand3.MarketLaws.{HasPermitted}
 use Rattle.engine.proofs.demand3.TallyLaws.{setAt-same, setAt-other}
 use Rattle.engine.proofs.demand3.WorkingKeeps.{afterRemainder-all, work-all}
 use Rattle.engine.proofs.demand3.SoundLaws.{SoundBook, book-distinct, book-others, RemainderOf, remainder-known, passOne-sound, SoundVenue, sound-venue, market-permits}
-use Rattle.engine.proofs.demand3.CallLaws.{callOf, fresh-run}
+use Rattle.engine.proofs.demand3.CallLaws.{accepted-call, Readable, step-readable, bytes-read, callOf, fresh-run}
 use Rattle.engine.proofs.requests.PassLaws.{afterMove-all, thePass-all}
 
 -- No firm trades with itself
@@ -355,3 +363,65 @@ unowned-calls-as-before w e b answer w′ b′ a h o =
       venue = a .venue ∙ ap (λ (s : Step). s .venue) (r .0);
       unowned = subst (All Unowned) (sym (ap (λ (v : Venue). v .orders) (a .venue))) (r .1);
     }
+
+-- As if its own orders weren't there
+
+executions-append : (rs qs : List Report) → executionsIn (rs ++ qs) ≡ executionsIn rs ++ executionsIn qs
+executions-append [] qs = refl
+executions-append (accepted i s p ∷ rs) qs = executions-append rs qs
+executions-append (executed x ∷ rs) qs = ap (λ (l : List Execution). x ∷ l) (executions-append rs qs)
+executions-append (cancelled i q cause ∷ rs) qs = executions-append rs qs
+executions-append (repriced i p s ∷ rs) qs = executions-append rs qs
+executions-append (restrictionStarts ∷ rs) qs = executions-append rs qs
+executions-append (dayEnded p ∷ rs) qs = executions-append rs qs
+
+happened-executions : (hs : List Happening) → executionsIn (map happened hs) ≡ executionsOf hs
+unfolding executionsOf
+happened-executions [] = refl
+happened-executions (traded x ∷ hs) = ap (λ (l : List Execution). x ∷ l) (happened-executions hs)
+happened-executions (withdrawn i q ∷ hs) = happened-executions hs
+
+remainder-executes : (x : Remainder) (w : Order) (os : List Order) → executionsIn ((afterRemainder x w os) .reports) ≡ []
+unfolding afterRemainder
+remainder-executes Filled w os = refl
+remainder-executes (Cancelled cause) w os = refl
+remainder-executes Rests w os = refl
+
+work-alone : (w : Order) (os : List Order) → T (idsRise 0 os) → T (stampsDiffer os) → executionsIn ((work w os) .reports) ≡ executionsAlone w os
+unfolding work
+work-alone w os r d =
+    let m : Matched = matching w os in
+    executions-append (map happened (m .happenings)) _ ∙ rw (happened-executions (m .happenings), remainder-executes (remainder (m .left)) (m .left) (m .orders), append-nil) (trades-as-if-alone w os r d .executions)
+
+entry-alone : (v : Venue) (e : Entry) (k : ℕ) → T (sound v) → executionsIn (effectOfEntry (v .market) v k e .reports) ≡ executionsAlone (orderOf (v .market) (v .lastStamp + 1) k e) (v .orders)
+unfolding effectOfEntry entering
+entry-alone v e k s =
+    let b = sound-venue v s .book in
+    work-alone (orderOf (v .market) (v .lastStamp + 1) k e) (v .orders) (rises-idsRise 0 (v .orders) (b .rises)) (differ-stampsDiffer (v .orders) (b .stamps))
+
+pub trades-as-if-alone-of-entries : TradesAsIfAlone
+unfolding step stepUnless effectOf
+trades-as-if-alone-of-entries v e k n rs q = go (refusal v (ownedEntry e k) n) (refusal-known v (ownedEntry e k) n) q
+  where
+    go : (x : Option ℕ) → Unless x (NotRefused v (ownedEntry e k) n) → stepUnless x v (ownedEntry e k) .answer ≡ gives rs → executionsIn rs ≡ executionsAlone (orderOf (v .market) (v .lastStamp + 1) k e) (v .orders)
+    go (some i) u z = let y : _≡_ {A = ℕ} 0 1 = cc in absurd (omega arith)
+    go none u z =
+        let y : effectOfEntry (v .market) v k e .reports ≡ rs = cc in
+        subst (λ (l : List Report). executionsIn l ≡ executionsAlone (orderOf (v .market) (v .lastStamp + 1) k e) (v .orders)) y (entry-alone v e k (u .sound))
+
+pub trades-as-if-alone-in-calls : TradesAsIfAloneInCalls
+unfolding venueOf
+trades-as-if-alone-in-calls w e k i b count w′ b′ a = go (stepIn w (ownedEntry e k) (length b) .answer) refl (a .answers) (a .buffer)
+  where
+    go : (x : Outcome (List Report)) → stepIn w (ownedEntry e k) (length b) .answer ≡ x → gives count ≡ countOf x → b′ ≡ bufferAfter b x → AloneInBytes w e k b′ count
+    go (refuses n) s c f = let y : _≡_ {A = ℕ} 0 1 = cc in absurd (omega arith)
+    go (gives rs) s c f =
+        let v : Venue = venueOf w in
+        let t : T (isBook w) = accepted-call a .0 in
+        let l : count ≡ length (reportsBytes rs) = cc in
+        let z : step v (ownedEntry e k) (length b) .answer ≡ gives rs = sym (ap (λ (x : Step). x .answer) (step-in w (ownedEntry e k) (length b) t)) ∙ s in
+        record {
+          read = rs;
+          readable = rw (f, l) (bytes-read b rs (subst (Readable (length b)) z (step-readable v (ownedEntry e k) (length b) i)));
+          alone = trades-as-if-alone-of-entries v e k (length b) rs z;
+        }

@@ -11,10 +11,12 @@ use Rattle.numbers.specs.Answers.{Outcome, gives, refuses}
 use Rattle.prices.specs.Prices.{isStep, legal}
 use Rattle.book.specs.declared.Order.{Order}
 use Rattle.book.specs.rules.Orders.{find, without}
-use Rattle.book.specs.rules.Matching.{Matched}
+use Rattle.book.specs.rules.Matching.{Execution, Matched}
 use Rattle.book.specs.rules.Words.{resting, isBook}
 use Rattle.book.specs.claims.OnlyTrading.{onlyTrading}
+use Rattle.book.specs.claims.OwnOrders.{others, executionsOf}
 use Rattle.engine.specs.declared.Market.{Market}
+use Rattle.engine.specs.declared.Entry.{Entry}
 use Rattle.engine.specs.declared.Event.{Event}
 use Rattle.engine.specs.declared.Event.the-variants.{Entry as entry, Cancel as cancel, Bid as bid, Tape as tape, DayEnd as dayEnd, OwnedEntry as ownedEntry}
 use Rattle.engine.specs.declared.Move.{Move}
@@ -26,8 +28,10 @@ use Rattle.engine.specs.rules.Pass.{moveOf, atNewPrice, Effect, afterMov
 use Rattle.engine.specs.rules.Venue.{Venue, opening, effectOfCancel, restrictionReport, effectOfDayEnd, effectOf, venueAfter}
 use Rattle.engine.specs.rules.Refusals.{refusal}
 use Rattle.engine.specs.rules.Run.{Step, step, Call, Answered, Run, run}
+use Rattle.engine.specs.rules.Records.{reportsUpTo}
 use Rattle.engine.specs.rules.Answers.{countOf, bufferAfter}
 use Rattle.engine.specs.rules.Layout.{venueOf, openedWords}
+use Rattle.engine.specs.claims.RoundTrips.{Word}
 use Rattle.engine.specs.claims.Account.{setAt}
 use Rattle.engine.specs.claims.Calls.{Applied, AppliedCall, Chain, answeredOf}
 
@@ -235,3 +239,36 @@ abbrev pub UnownedCallsAsBefore : Type 0
 UnownedCallsAsBefore =
     (w : List ℕ) (e : Event) (b : List ℕ) (answer : Outcome ℕ) (w′ b′ : List ℕ) → Applied w e b answer w′ b′ →
     All Unowned (resting w) → NamesNoOwner e → CallAsBefore w e b answer w′ b′
+
+-- As if its own orders weren't there
+
+-- the executions among reports
+abbrev pub executionsIn : List Report → List Execution
+executionsIn [] = []
+executionsIn (accepted i s p ∷ rs) = executionsIn rs
+executionsIn (executed x ∷ rs) = x ∷ executionsIn rs
+executionsIn (cancelled i q cause ∷ rs) = executionsIn rs
+executionsIn (repriced i p s ∷ rs) = executionsIn rs
+executionsIn (restrictionStarts ∷ rs) = executionsIn rs
+executionsIn (dayEnded p ∷ rs) = executionsIn rs
+
+-- those of an order that works and only trades, in a book without the orders of its owner
+abbrev pub executionsAlone : Order → List Order → List Execution
+executionsAlone w os = executionsOf (onlyTrading w (others w os) .happenings)
+
+-- what an accepted entry of kind 6 executes with others, and in which order, is what it would execute if its owner's orders weren't there
+abbrev pub TradesAsIfAlone : Type 0
+TradesAsIfAlone =
+    (v : Venue) (e : Entry) (k n : ℕ) (rs : List Report) → step v (ownedEntry e k) n .answer ≡ gives rs →
+    executionsIn rs ≡ executionsAlone (orderOf (v .market) (v .lastStamp + 1) k e) (v .orders)
+
+-- the same of calls, by the report bytes: of an entry with a 32-bit id that apply accepts on any words
+pub record AloneInBytes (w : List ℕ) (e : Entry) (k : ℕ) (after : List ℕ) (count : ℕ) : Type 0 where
+  pub read : List Report
+  pub readable : reportsUpTo after count ≡ some read
+  pub alone : executionsIn read ≡ executionsAlone (orderOf (venueOf w .market) (venueOf w .lastStamp + 1) k e) (resting w)
+
+abbrev pub TradesAsIfAloneInCalls : Type 0
+TradesAsIfAloneInCalls =
+    (w : List ℕ) (e : Entry) (k : ℕ) → Word (e .id) → (b : List ℕ) (count : ℕ) (w′ b′ : List ℕ) → Applied w (ownedEntry e k) b (gives count) w′ b′ →
+    AloneInBytes w e k b′ count
