@@ -1,4 +1,4 @@
-// The best order that a working order reaches: by price, then displayed before not, then lower stamp.
+// The best order that a working order reaches, by price, then displayed before not, then lower stamp; and whether two orders are of the same owner.
 use crate::Order;
 use crate::Position;
 use crate::words;

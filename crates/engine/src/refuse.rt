@@ -1,4 +1,4 @@
-// What an event or a question is refused for: the conditions of a venue record, and the terms, the codes and the place of an entry.
+// What an event or a question is refused for: the conditions of a venue record, and the terms, the codes, the owner and the place of an entry.
 use crate::Entry;
 use crate::MayRefuse;
 use crate::Refusal;
@@ -156,7 +156,7 @@ pub(crate) fn asked_refusal(w: &[u32], mark: u32, price: u32, shares: u32) -> Ma
     }
 }
 
-// What an entry is refused for, its parts in their order; of its owner the caller says it.
+// What an entry is refused for, its parts in their order; what its owner is refused for is given.
 pub(crate) fn entry_refusal(w: &[u32], e: Entry, of_owner: MayRefuse) -> MayRefuse
     requires { ⌜ HasStep (now w) ⌝ }
     ensures { λ r. ⌜ refusedWith r ≡ refusalOfEntry (venueOf (now (w .entry))) e (refusedWith «of_owner») ⌝ }

@@ -34,9 +34,9 @@ ghost use Rattle.engine.specs.steps.Steps.{MayEnter, Meets, matchingRepo
 
 const IMMEDIATE_OR_CANCEL: u32 = 2;
 
-const SAME_FIRM: u32 = 5;
-
 pub(crate) const OPT_OUT: u32 = 3;
+
+const SAME_FIRM: u32 = 5;
 
 fn smaller(a: u32, b: u32) -> u32
     ensures { λ r. ⌜ r ≡ min a b ⌝ }
@@ -163,7 +163,7 @@ fn write_execution(reports: &mut [u8], at: usize, o: Order, x: Order, q: u32) ->
     report::write_executed(reports, at, x.id, o.id, x.price, q)
 }
 
-// Where the order stands that o trades with next: nowhere once no shares remain.
+// Where the order stands that o meets next: nowhere once no shares remain.
 fn counterparty(w: &[u32], o: Order) -> Position
     requires { ⌜ Book (now w) ⌝ }
     ensures { λ r. ⌜ Found (resting (now (w .entry))) r (Matching.counterparty o (resting (now (w .entry)))) ⌝ }
@@ -212,7 +212,7 @@ fn meet(w: &mut [u32], reports: &mut [u8], at: usize, o: Order, i: usize) -> Wor
     trade_with(w, reports, at, o, i)
 }
 
-// Meets o with the orders that it reaches, best first.
+// o meets the orders that it reaches, best first.
 fn match_order(w: &mut [u32], reports: &mut [u8], at: usize, o: Order) -> WorkingOrder
     requires { ⌜ MayEnter o (now w) × Room (now reports) at (matchingReports (Matching.matching o (resting (now w)))) ⌝ }
     ensures { λ r. ⌜ Matches (now (w .entry)) (now (w .exit)) (now (reports .entry)) (now (reports .exit)) at o (r .left) (r .end) ⌝ }

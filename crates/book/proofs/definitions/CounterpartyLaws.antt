@@ -1,4 +1,4 @@
--- Laws of whom a working order reaches, and of whom it trades with next. Assumes nothing.
+-- Laws of whom a working order reaches, and of whom it meets next. Assumes nothing.
 use Prim.Native.Nat.{_≤_, _<_}
 use mathlib.Core.Path.{_≡_, refl, subst}
 use mathlib.Core.Bool.{Bool, true, false, not, _&&_}
@@ -51,7 +51,7 @@ unreached-sell w o t r z =
     go (inl h) = absurd (neqb (o .mark) 0 h z)
     go (inr h) = omega tests
 
--- whom a working order trades with next
+-- whom a working order meets next
 
 -- what is known where the counterparty is this: none, as no shares remain or nobody is reached, or an order that rests and is reached
 abbrev pub Reached : Order → List Order → Option Order → Type 0

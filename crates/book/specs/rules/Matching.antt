@@ -40,7 +40,7 @@ bestFrom w x (o ∷ os) = bestFrom w (pick (reaches w o) (betterOf w x o) x) os
 unfoldable pub best : Order → List Order → Option Order
 best w os = bestFrom w none os
 
--- whom w trades with next: nobody once no shares remain
+-- whom w meets next: nobody once no shares remain
 unfoldable pub counterparty : Order → List Order → Option Order
 counterparty w os = pick (eqb (w .shares) 0) none (best w os)
 

@@ -1,4 +1,5 @@
--- The record of an order in a run that a host lends: document 01, "Copy out": "a lent run of order records". Assumes nothing.
+-- The record of an order in a run that a host lends: document 01, "Copy out": "a lent run of order records"; document 02, No. 7: "The order
+-- record and copy out show the owner". Assumes nothing.
 use Rattle.book.specs.declared.Order.{Order}
 use Rattle.book.specs.declared.OrderRecord.{OrderRecord}
 use Rattle.book.specs.rules.Words.{flagWord}

@@ -14,7 +14,7 @@ use Rattle.numbers.proofs.ByteLaws.{kind-size}
 use Rattle.book.specs.declared.Order.{Order}
 use Rattle.book.specs.rules.Orders.{find, without}
 use Rattle.book.specs.rules.Sound.{mostOwner}
-use Rattle.book.specs.rules.Matching.{Happening, traded, withdrawn, Meeting, trading, withdrawing, meeting, Matched, matching}
+use Rattle.book.specs.rules.Matching.{Happening, traded, withdrawn, Meeting, trading, meeting, Matched, matching}
 use Rattle.book.proofs.definitions.OrderLaws.{idOf, Distinct, taken-length, mem-taken, insert-taken, Found, find-found}
 use Rattle.book.proofs.definitions.CounterpartyLaws.{Reached}
 use Rattle.book.proofs.definitions.MeetingLaws.{meeting-by, trading-known, withdrawing-known}

@@ -13,7 +13,7 @@ use Rattle.prices.proofs.PriceLaws.{legal-out}
 use Rattle.book.specs.declared.Order.{Order}
 use Rattle.book.specs.rules.Orders.{find, restingShares, without}
 use Rattle.book.specs.rules.Sound.{mostOwner}
-use Rattle.book.specs.rules.Matching.{Execution, Happening, Meeting, trading, withdrawing, meeting, Matched, matching}
+use Rattle.book.specs.rules.Matching.{Execution, Happening, Meeting, trading, meeting, Matched, matching}
 use Rattle.book.proofs.definitions.OrderLaws.{idOf, Found, find-found, shares-found}
 use Rattle.book.proofs.definitions.MeetingLaws.{execution-by, meeting-by, trading-known, withdrawing-known}
 use Rattle.book.proofs.definitions.MatchingLaws.{matching-keeps}

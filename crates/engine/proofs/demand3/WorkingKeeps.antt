@@ -11,7 +11,7 @@ use Rattle.numbers.specs.Tests.{pick, All}
 use Rattle.numbers.proofs.TestLaws.{by-test, ne→T, neqb, tests, all-both}
 use Rattle.book.specs.declared.Order.{Order}
 use Rattle.book.specs.rules.Orders.{isBuy, reduced, ifSame, without, insert}
-use Rattle.book.specs.rules.Matching.{Execution, execution, afterTrade, Happening, Meeting, trading, withdrawing, meeting, Matched, matching}
+use Rattle.book.specs.rules.Matching.{Execution, afterTrade, Happening, Meeting, trading, meeting, Matched, matching}
 use Rattle.book.proofs.definitions.ShareLaws.{ifSame-less}
 use Rattle.book.proofs.definitions.OrderLaws.{shares-first, idOf, Other, Distinct, TakenOut, taken-all, taken-differ, taken-shares, all-taken, mem-taken, insert-taken}
 use Rattle.book.proofs.definitions.CounterpartyLaws.{reach-sell, Unreached, unreached-buy, unreached-sell, Reached}

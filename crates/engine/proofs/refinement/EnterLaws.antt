@@ -88,8 +88,8 @@ module _ (w : List ℕ) (e : Entry) (k : ℕ) (o : Order) (q : o ≡ orderOf (ve
 
   -- and is accepted
   pub entry-done : {w₁ w₂ b b₁ b₂ : List ℕ} {at end : ℕ} → Ordered w → Room b 0 (effectIn w (entryBy e k) .reports) → Put (reportBytes (accepted (o .id) (o .stamp) (o .price))) 0 b at b₁ → Does w w₁ b₁ b₂ at (work o (resting w) .orders) (work o (resting w) .reports) end → Becomes w₁ w₂ (finished (o .id) (o .stamp) (venueOf w₁)) → Accepts w w₂ b b₂ (entryBy e k) end
-  entry-done {w₁} {w₂} {b} {b₁} {b₂} {at} {end} k r p d f =
-      let x : Does w w₁ b b₂ 0 (work o (resting w) .orders) (accepted (o .id) (o .stamp) (o .price) ∷ work o (resting w) .reports) end = does-then (room-as b 0 entry-reports r) (does-report _ k p) d in
+  entry-done {w₁} {w₂} {b} {b₁} {b₂} {at} {end} g r p d f =
+      let x : Does w w₁ b b₂ 0 (work o (resting w) .orders) (accepted (o .id) (o .stamp) (o .price) ∷ work o (resting w) .reports) end = does-then (room-as b 0 entry-reports r) (does-report _ g p) d in
       let u = becomes-then (does-becomes d) f in
       record {
         ordered = f .ordered;

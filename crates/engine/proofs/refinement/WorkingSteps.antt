@@ -39,7 +39,7 @@ pub execution-sell : (o x : Order) (q : ℕ) → (o .mark ≡ 0 → ⊥) → exe
 unfolding execution
 execution-sell o x q e = pick-no (eqb (o .mark) 0) _ _ (ne→T (o .mark) 0 e)
 
--- one meeting, as the code has it: x is the order at i, and q the smaller number of shares
+-- a trade, as the code has it: x is the order at i, and q the smaller number of shares
 
 module _ (w : List ℕ) (o x : Order) (i q : ℕ) (ordered : Ordered w) (h : i < length (resting w)) (ex : x ≡ getD (resting w) i emptyOrder) (eq : q ≡ min (o .shares) (x .shares)) where
   abbrev y : Order

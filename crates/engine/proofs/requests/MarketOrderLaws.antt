@@ -6,7 +6,7 @@ use mathlib.Core.Path.{_≡_, refl, sym, ap, _∙_, subst}
 use mathlib.Core.Bool.{Bool, true, false, not, _&&_}
 use mathlib.Core.Logic.{_⊎_, inl, inr}
 use mathlib.Core.Option.{Option, none, some}
-use mathlib.Core.List.{List, [], _∷_, map, List·Memᴰ}
+use mathlib.Core.List.{List, List·Memᴰ}
 use lib.Dec.{T, eqb, leb, ltb, leb→le, T-not}
 use lib.ListN.{length}
 use borrow.Author.Tests.{lt-ltb, lt-leb, eq-eqb, ne-eqb}
@@ -31,7 +31,7 @@ use Rattle.engine.specs.declared.Move.{Move}
 use Rattle.engine.specs.declared.Move.the-variants.{Stay, Cancel, Reprice}
 use Rattle.engine.specs.rules.Market.{marketAfter, restricted, permittedNow}
 use Rattle.engine.specs.rules.Working.{limitOf, followsBid, lifeOf, workingPrice, orderOf, remainder, afterRemainder, work}
-use Rattle.engine.specs.rules.Pass.{maySlide, moveOf, afterMove, passOne, passOver}
+use Rattle.engine.specs.rules.Pass.{maySlide, moveOf, afterMove}
 use Rattle.engine.specs.rules.Venue.{Venue, thePass, entering, effectOfEntry, effectOfCancel, effectOfDayEnd, effectOf}
 use Rattle.engine.specs.rules.Refusals.{firstOf, refusalOfTerms, refusalOfEntry, refusalOfKind, refusal}
 use Rattle.engine.specs.rules.Run.{Step, stepUnless, step}
@@ -40,7 +40,7 @@ use Rattle.engine.specs.steps.Steps.{moveInPass}
 use Rattle.engine.specs.claims.MarketOrders.{limitOrder, withTerms, MarketShort, Immediate, MarketOrdersWork, MarketFlagKept, runsPass, MarketShortsStay, MarketShortsStayInCalls, MovesAsBefore, EntriesAsBefore}
 use Rattle.engine.proofs.refinement.RefusalLaws.{EntryAllowed, Allowed, NotRefused, Unless, refusal-known}
 use Rattle.engine.proofs.demand3.MarketLaws.{restricted-mark, HasPermitted}
-use Rattle.engine.proofs.demand3.SoundLaws.{SoundBook, book-distinct, book-order, passOne-sound, SoundVenue, sound-venue, market-permits, effectOf-sound}
+use Rattle.engine.proofs.demand3.SoundLaws.{SoundBook, book-distinct, book-order, SoundVenue, sound-venue, market-permits, effectOf-sound}
 use Rattle.engine.proofs.demand3.WorkingKeeps.{work-all}
 use Rattle.engine.proofs.requests.PassLaws.{KeptByTurn, thePass-turns, thePass-all}
 

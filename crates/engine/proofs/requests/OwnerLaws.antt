@@ -48,7 +48,7 @@ use Rattle.engine.specs.rules.Layout.{venueOf, stepIn}
 use Rattle.engine.specs.steps.Steps.{moveInPass}
 use Rattle.engine.specs.claims.Account.{setAt}
 use Rattle.engine.specs.claims.Calls.{AppliedCall, Chain}
-use Rattle.engine.specs.claims.Owners.{Owners, noOwners, ownersAfter, worksNow, readOwners, ownersBy, ownersFrom, ownersOf, FirmsApart, NoFirmTradesWithItself, OwnersShown, OwnersAreShown, FirmsApartInCalls, NoFirmTradesWithItselfInCalls, workBefore, enteringBefore, afterMoveBefore, turnBefore, passBefore, effectBefore, stepUnlessBefore, stepBefore, Unowned, NamesNoOwner, UnownedAsBefore, stepInBefore, UnownedCallsAsBefore, executionsIn, executionsAlone, TradesAsIfAlone, AloneInBytes, TradesAsIfAloneInCalls}
+use Rattle.engine.specs.claims.Owners.{Owners, noOwners, ownersAfter, worksNow, readOwners, ownersBy, ownersFrom, ownersOf, FirmsApart, NoFirmTradesWithItself, OwnersShown, OwnersAreShown, FirmsApartInCalls, NoFirmTradesWithItselfInCalls, unownedWork, unownedEntering, unownedMove, unownedTurn, unownedPass, unownedEffect, unownedUnless, unownedStep, Unowned, NamesNoOwner, UnownedAsBefore, KindOneAsBefore, unownedStepIn, UnownedCallsAsBefore, executionsIn, executionsAlone, TradesAsIfAlone, AloneInBytes, TradesAsIfAloneInCalls}
 use Rattle.engine.proofs.refinement.RefusalLaws.{EntryAllowed, Allowed, NotRefused, Unless, refusal-known}
 use Rattle.engine.proofs.refinement.OpeningLaws.{opening-known, opened-book, opened-venue, step-in}
 use Rattle.engine.proofs.demand3.MarketLaws.{HasPermitted}
@@ -274,31 +274,31 @@ no-firm-trades-with-itself-in-calls s close i t = apart-from s close i t (opened
 
 -- As before
 
-work-before : (w : Order) (os : List Order) → Unowned w → work w os ≡ workBefore w os
-unfolding work workBefore
+work-before : (w : Order) (os : List Order) → Unowned w → work w os ≡ unownedWork w os
+unfolding work unownedWork
 work-before w os h = rw (unowned-only-trades w os h)
 
 -- an entry of kind 1
-entering-before : (o : Order) (os : List Order) → Unowned o → entering o os ≡ enteringBefore o os
-unfolding entering enteringBefore
+entering-before : (o : Order) (os : List Order) → Unowned o → entering o os ≡ unownedEntering o os
+unfolding entering unownedEntering
 entering-before o os h = rw (work-before o os h)
 
 -- a turn of the pass
-move-before : (y : Move) (o : Order) (os : List Order) (s : ℕ) → Unowned o → afterMove y o os s ≡ afterMoveBefore y o os s
-unfolding afterMove afterMoveBefore
+move-before : (y : Move) (o : Order) (os : List Order) (s : ℕ) → Unowned o → afterMove y o os s ≡ unownedMove y o os s
+unfolding afterMove unownedMove
 move-before Stay o os s h = refl
 move-before Cancel o os s h = refl
 move-before (Reprice p used) o os s h = rw (work-before (atNewPrice p (s + 1) used o) (without (o .id) os) h)
 
 module _ (m : Market) (t : HasPermitted m) (n : ℕ) where
-  turn-before : (i : ℕ) (x : Option Order) (os : List Order) (s : ℕ) → Found i os x → SoundBook (m .step) n s os → All Unowned os → (passOne m x os s ≡ turnBefore m x os s) × All Unowned ((passOne m x os s) .orders)
-  unfolding passOne turnBefore
+  turn-before : (i : ℕ) (x : Option Order) (os : List Order) (s : ℕ) → Found i os x → SoundBook (m .step) n s os → All Unowned os → (passOne m x os s ≡ unownedTurn m x os s) × All Unowned ((passOne m x os s) .orders)
+  unfolding passOne unownedTurn
   turn-before i none os s f b h = (refl, h)
   turn-before i (some o) os s f b h =
       (move-before (moveInPass m o) o os s (taken-all Unowned (mem-taken (f .0) (book-distinct b)) h .0), afterMove-all Unowned (λ z q k. k) (λ price stamp used x k. k) o os s (moveInPass m o) (f .0) b h)
 
-  pass-before : (is : List ℕ) (os : List Order) (s : ℕ) → SoundBook (m .step) n s os → All Unowned os → passOver m is os s ≡ passBefore m is os s
-  unfolding passOver passBefore
+  pass-before : (is : List ℕ) (os : List Order) (s : ℕ) → SoundBook (m .step) n s os → All Unowned os → passOver m is os s ≡ unownedPass m is os s
+  unfolding passOver unownedPass
   pass-before [] os s b h = refl
   pass-before (i ∷ is) os s b h =
       let f = find-found i os in
@@ -309,7 +309,7 @@ kind-1-unowned : (v : Venue) (e : Entry) → Unowned (orderOf (v .market) (v .la
 unfolding orderOf
 kind-1-unowned v e = refl
 
-effect-before : (v : Venue) (e : Event) → Allowed v e → SoundVenue v → All Unowned (v .orders) → NamesNoOwner e → effectOf (marketAfter e (v .market)) v e ≡ effectBefore (marketAfter e (v .market)) v e
+effect-before : (v : Venue) (e : Event) → Allowed v e → SoundVenue v → All Unowned (v .orders) → NamesNoOwner e → effectOf (marketAfter e (v .market)) v e ≡ unownedEffect (marketAfter e (v .market)) v e
 unfolding effectOf effectOfEntry thePass
 effect-before v (entry e) a g h o = entering-before _ (v .orders) (kind-1-unowned v e)
 effect-before v (cancel i) a g h o = refl
@@ -328,8 +328,16 @@ effect-unowned v (tape p) a g h o = thePass-all Unowned (λ z q k. k) (λ price 
 effect-unowned v (dayEnd c) a g h o = tt
 effect-unowned v (ownedEntry e k) a g h o = absurd o
 
-unless-before : (x : Option ℕ) (v : Venue) (e : Event) (n : ℕ) → Unless x (NotRefused v e n) → All Unowned (v .orders) → NamesNoOwner e → (stepUnless x v e ≡ stepUnlessBefore x v e) × All Unowned ((stepUnless x v e) .venue .orders)
-unfolding stepUnless stepUnlessBefore
+kind-one-done : (v : Venue) (e : Entry) → stepUnless none v (entry e) ≡ unownedUnless none v (entry e)
+unfolding stepUnless unownedUnless effectOf effectOfEntry
+kind-one-done v e = rw (entering-before (orderOf (v .market) (v .lastStamp + 1) 0 e) (v .orders) (kind-1-unowned v e))
+
+refused-alike : (k : ℕ) (v : Venue) (e : Event) → stepUnless (some k) v e ≡ unownedUnless (some k) v e
+unfolding stepUnless unownedUnless
+refused-alike k v e = refl
+
+unless-before : (x : Option ℕ) (v : Venue) (e : Event) (n : ℕ) → Unless x (NotRefused v e n) → All Unowned (v .orders) → NamesNoOwner e → (stepUnless x v e ≡ unownedUnless x v e) × All Unowned ((stepUnless x v e) .venue .orders)
+unfolding stepUnless unownedUnless
 unless-before (some k) v e n u h o = (refl, h)
 unless-before none v e n u h o =
     let g = sound-venue v (u .sound) in
@@ -341,15 +349,23 @@ unowned-as-before v e n h o =
     let r = unless-before (refusal v e n) v e n (refusal-known v e n) h o in
     record { same = r .0; unowned = r .1 }
 
+pub kind-one-as-before : KindOneAsBefore
+unfolding step
+kind-one-as-before v e n = go (refusal v (entry e) n)
+  where
+    go : (x : Option ℕ) → stepUnless x v (entry e) ≡ unownedUnless x v (entry e)
+    go none = kind-one-done v e
+    go (some k) = refused-alike k v (entry e)
+
 -- on words that are laid out as no venue, 16 as before
-in-before : (w : List ℕ) (e : Event) (n : ℕ) → All Unowned (venueOf w .orders) → NamesNoOwner e → (stepIn w e n ≡ stepInBefore w e n) × All Unowned ((stepIn w e n) .venue .orders)
+in-before : (w : List ℕ) (e : Event) (n : ℕ) → All Unowned (venueOf w .orders) → NamesNoOwner e → (stepIn w e n ≡ unownedStepIn w e n) × All Unowned ((stepIn w e n) .venue .orders)
 unfolding stepIn pick
 in-before w e n h o = go (isBook w)
   where
     broken : Step
     broken = record { answer = refuses 16; venue = venueOf w }
 
-    go : (laid : Bool) → (pick laid (step (venueOf w) e n) broken ≡ pick laid (stepBefore (venueOf w) e n) broken) × All Unowned ((pick laid (step (venueOf w) e n) broken) .venue .orders)
+    go : (laid : Bool) → (pick laid (step (venueOf w) e n) broken ≡ pick laid (unownedStep (venueOf w) e n) broken) × All Unowned ((pick laid (step (venueOf w) e n) broken) .venue .orders)
     go true = let r = unowned-as-before (venueOf w) e n h o in (r .same, r .unowned)
     go false = (refl, h)
 

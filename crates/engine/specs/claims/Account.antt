@@ -85,6 +85,7 @@ startTally e c =
       fills = c.fills;
     }
 
+-- No. 7: kind 6 "is an entry" too
 abbrev pub talliesAfter : Event → Tallies → Tallies
 talliesAfter (entry e) c = startTally e c
 talliesAfter (cancel i) c = c
@@ -136,7 +137,7 @@ readExecution m c x =
       fills = fillOf m c (x .buyer) (x .price) ∷ fillOf m c (x .seller) (x .price) ∷ c.fills;
     }
 
--- "Report 3 adds its shares to cancelled"
+-- "Report 3 adds its shares to cancelled", whatever its cause; No. 7: "Shares cancelled so count as cancelled"
 abbrev pub readCancelled : ℕ → ℕ → Tallies → Tallies
 readCancelled k q c =
     record {

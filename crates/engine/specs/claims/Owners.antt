@@ -152,58 +152,58 @@ NoFirmTradesWithItselfInCalls =
 -- As before, with owner 0 everywhere: every meeting was a trade (`onlyTrading`)
 
 -- an order works, in an entry and in a turn of the pass; each with the matching of before and no other change
-unfoldable pub workBefore : Order → List Order → Worked
-workBefore w os =
+unfoldable pub unownedWork : Order → List Order → Worked
+unownedWork w os =
     let m : Matched = onlyTrading w os in
     let r : Worked = afterRemainder (remainder (m .left)) (m .left) (m .orders) in
     record { reports = map happened (m .happenings) ++ r.reports; orders = r.orders }
 
-unfoldable pub enteringBefore : Order → List Order → Effect
-enteringBefore o os =
-    let w : Worked = workBefore o os in
+unfoldable pub unownedEntering : Order → List Order → Effect
+unownedEntering o os =
+    let w : Worked = unownedWork o os in
     record { reports = accepted (o .id) (o .stamp) (o .price) ∷ w.reports; orders = w.orders; stamp = o.stamp }
 
-unfoldable pub afterMoveBefore : Move → Order → List Order → ℕ → Effect
-afterMoveBefore Stay o os s = afterMove Stay o os s
-afterMoveBefore Cancel o os s = afterMove Cancel o os s
-afterMoveBefore (Reprice p used) o os s =
-    let w : Worked = workBefore (atNewPrice p (s + 1) used o) (without (o .id) os) in
+unfoldable pub unownedMove : Move → Order → List Order → ℕ → Effect
+unownedMove Stay o os s = afterMove Stay o os s
+unownedMove Cancel o os s = afterMove Cancel o os s
+unownedMove (Reprice p used) o os s =
+    let w : Worked = unownedWork (atNewPrice p (s + 1) used o) (without (o .id) os) in
     record { reports = repriced (o .id) p (s + 1) ∷ w.reports; orders = w.orders; stamp = s + 1 }
 
-unfoldable pub turnBefore : Market → Option Order → List Order → ℕ → Effect
-turnBefore m none os s = record { reports = []; orders = os; stamp = s }
-turnBefore m (some o) os s = afterMoveBefore (pick (restricted m (o .mark)) (moveOf m o) Stay) o os s
+unfoldable pub unownedTurn : Market → Option Order → List Order → ℕ → Effect
+unownedTurn m none os s = record { reports = []; orders = os; stamp = s }
+unownedTurn m (some o) os s = unownedMove (pick (restricted m (o .mark)) (moveOf m o) Stay) o os s
 
-unfoldable pub passBefore : Market → List ℕ → List Order → ℕ → Effect
-passBefore m [] os s = record { reports = []; orders = os; stamp = s }
-passBefore m (i ∷ is) os s =
-    let x : Effect = turnBefore m (find i os) os s in
-    let y : Effect = passBefore m is (x .orders) (x .stamp) in
+unfoldable pub unownedPass : Market → List ℕ → List Order → ℕ → Effect
+unownedPass m [] os s = record { reports = []; orders = os; stamp = s }
+unownedPass m (i ∷ is) os s =
+    let x : Effect = unownedTurn m (find i os) os s in
+    let y : Effect = unownedPass m is (x .orders) (x .stamp) in
     record { reports = x.reports ++ y.reports; orders = y.orders; stamp = y.stamp }
 
 -- what an accepted event did; kind 6 wasn't there, and isn't asked about
-abbrev pub passOfAllBefore : Market → Venue → Effect
-passOfAllBefore m v = passBefore m (map (λ (o : Order). o .id) (v .orders)) (v .orders) (v .lastStamp)
+abbrev pub unownedPassOfAll : Market → Venue → Effect
+unownedPassOfAll m v = unownedPass m (map (λ (o : Order). o .id) (v .orders)) (v .orders) (v .lastStamp)
 
-abbrev pub effectBefore : Market → Venue → Event → Effect
-effectBefore m v (entry e) = enteringBefore (orderOf m (v .lastStamp + 1) 0 e) (v .orders)
-effectBefore m v (cancel i) = effectOfCancel v i
-effectBefore m v (bid b) = passOfAllBefore m v
-effectBefore m v (tape p) =
-    let x : Effect = passOfAllBefore m v in
+abbrev pub unownedEffect : Market → Venue → Event → Effect
+unownedEffect m v (entry e) = unownedEntering (orderOf m (v .lastStamp + 1) 0 e) (v .orders)
+unownedEffect m v (cancel i) = effectOfCancel v i
+unownedEffect m v (bid b) = unownedPassOfAll m v
+unownedEffect m v (tape p) =
+    let x : Effect = unownedPassOfAll m v in
     record { reports = restrictionReport (v .market) m ++ x.reports; orders = x.orders; stamp = x.stamp }
-effectBefore m v (dayEnd c) = effectOfDayEnd m v
-effectBefore m v (ownedEntry e k) = effectOf m v (ownedEntry e k)
+unownedEffect m v (dayEnd c) = effectOfDayEnd m v
+unownedEffect m v (ownedEntry e k) = effectOf m v (ownedEntry e k)
 
-unfoldable pub stepUnlessBefore : Option ℕ → Venue → Event → Step
-stepUnlessBefore (some n) v e = record { answer = refuses n; venue = v }
-stepUnlessBefore none v e =
-    let x : Effect = effectBefore (marketAfter e (v .market)) v e in
+unfoldable pub unownedUnless : Option ℕ → Venue → Event → Step
+unownedUnless (some n) v e = record { answer = refuses n; venue = v }
+unownedUnless none v e =
+    let x : Effect = unownedEffect (marketAfter e (v .market)) v e in
     record { answer = gives (x .reports); venue = venueAfter v e x }
 
 -- it is refused as now; what kind 1 is refused for is pinned by No. 3's claim (`kindBefore`)
-abbrev pub stepBefore : Venue → Event → ℕ → Step
-stepBefore v e n = stepUnlessBefore (refusal v e n) v e
+abbrev pub unownedStep : Venue → Event → ℕ → Step
+unownedStep v e n = unownedUnless (refusal v e n) v e
 
 -- an order without an owner, and an event that names none
 abbrev pub Unowned : Order → Type 0
@@ -219,26 +219,30 @@ NamesNoOwner (ownedEntry e k) = ⊥
 
 -- its answer and its venue are those of before, and owner 0 stays everywhere
 pub record EventAsBefore (v : Venue) (e : Event) (n : ℕ) : Type 0 where
-  pub same : step v e n ≡ stepBefore v e n
+  pub same : step v e n ≡ unownedStep v e n
   pub unowned : All Unowned (step v e n .venue .orders)
 
 abbrev pub UnownedAsBefore : Type 0
 UnownedAsBefore = (v : Venue) (e : Event) (n : ℕ) → All Unowned (v .orders) → NamesNoOwner e → EventAsBefore v e n
 
--- the same of every call of apply, on any words and any buffer
-abbrev pub stepInBefore : List ℕ → Event → ℕ → Step
-stepInBefore w e n = pick (isBook w) (stepBefore (venueOf w) e n) (record { answer = refuses 16; venue = venueOf w })
+-- an entry of kind 1 does so whoever's orders rest
+abbrev pub KindOneAsBefore : Type 0
+KindOneAsBefore = (v : Venue) (e : Entry) (n : ℕ) → step v (entry e) n ≡ unownedStep v (entry e) n
 
-pub record CallAsBefore (w : List ℕ) (e : Event) (b : List ℕ) (answer : Outcome ℕ) (w′ b′ : List ℕ) : Type 0 where
-  pub answers : answer ≡ countOf (stepInBefore w e (length b) .answer)
-  pub buffer : b′ ≡ bufferAfter b (stepInBefore w e (length b) .answer)
-  pub venue : venueOf w′ ≡ stepInBefore w e (length b) .venue
+-- the same of every call of apply, on any words and any buffer
+abbrev pub unownedStepIn : List ℕ → Event → ℕ → Step
+unownedStepIn w e n = pick (isBook w) (unownedStep (venueOf w) e n) (record { answer = refuses 16; venue = venueOf w })
+
+pub record UnownedCallAsBefore (w : List ℕ) (e : Event) (b : List ℕ) (answer : Outcome ℕ) (w′ b′ : List ℕ) : Type 0 where
+  pub answers : answer ≡ countOf (unownedStepIn w e (length b) .answer)
+  pub buffer : b′ ≡ bufferAfter b (unownedStepIn w e (length b) .answer)
+  pub venue : venueOf w′ ≡ unownedStepIn w e (length b) .venue
   pub unowned : All Unowned (resting w′)
 
 abbrev pub UnownedCallsAsBefore : Type 0
 UnownedCallsAsBefore =
     (w : List ℕ) (e : Event) (b : List ℕ) (answer : Outcome ℕ) (w′ b′ : List ℕ) → Applied w e b answer w′ b′ →
-    All Unowned (resting w) → NamesNoOwner e → CallAsBefore w e b answer w′ b′
+    All Unowned (resting w) → NamesNoOwner e → UnownedCallAsBefore w e b answer w′ b′
 
 -- As if its own orders weren't there
 

@@ -1,5 +1,5 @@
 -- The pass: document 01, "The pass runs after each accepted bid or tape event, over the orders then resting, lowest id first.", and document 02,
--- No. 1. Assumes nothing.
+-- No. 1 and No. 7. Assumes nothing.
 use Prim.Native.Nat.{ℕ, _+_, max}
 use mathlib.Core.Bool.{Bool, true, not, _&&_}
 use mathlib.Core.List.{List, [], _∷_, _++_}
@@ -75,7 +75,7 @@ pub record Effect : Type 0 where
   pub orders : List Order
   pub stamp : ℕ
 
--- an order is moved, "and matches as if it came in"
+-- an order is moved, "and matches as if it came in"; No. 7: "This holds in the pass as well"
 unfoldable pub afterMove : Move → Order → List Order → ℕ → Effect
 afterMove Stay o os s = record { reports = []; orders = os; stamp = s }
 afterMove Cancel o os s = record { reports = cancelled (o .id) (o .shares) optOut ∷ []; orders = without (o .id) os; stamp = s }

@@ -10,7 +10,6 @@ use Rattle.numbers.proofs.TestLaws.{T-true, map-all}
 use Rattle.prices.specs.Prices.{isStep, legal}
 use Rattle.book.specs.rules.Words.{isBook}
 use Rattle.engine.specs.declared.Event.{Event}
-use Rattle.engine.specs.declared.Event.the-variants.{Entry as entry}
 use Rattle.engine.specs.rules.Venue.{opened}
 use Rattle.engine.specs.rules.Records.{recordAt}
 use Rattle.engine.specs.rules.Layout.{venueOf}

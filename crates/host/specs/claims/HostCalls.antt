@@ -11,9 +11,7 @@ use Rattle.numbers.specs.SevenBit.{IsByte}
 use Rattle.book.specs.declared.Order.{Order}
 use Rattle.book.specs.rules.Orders.{find}
 use Rattle.book.specs.rules.Words.{resting}
-use Rattle.engine.specs.declared.Entry.{Entry}
 use Rattle.engine.specs.declared.Event.{Event}
-use Rattle.engine.specs.declared.Event.the-variants.{Entry as entry}
 use Rattle.engine.specs.rules.Market.{marketAfter}
 use Rattle.engine.specs.rules.Refusals.{leastBuffer}
 use Rattle.engine.specs.rules.Records.{recordAt}

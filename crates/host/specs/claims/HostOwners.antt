@@ -1,13 +1,16 @@
 -- What is claimed of No. 7, firms that don't trade with themselves, as a host sees it: bytes, numbers and words. Assumes nothing.
-use Prim.Native.Nat.{ℕ}
+use Prim.Native.Nat.{ℕ, _<_}
 use mathlib.Core.Path.{_≡_}
 use mathlib.Core.List.{List, map}
 use Rattle.numbers.specs.Tests.{All}
 use Rattle.numbers.specs.Answers.{gives, Read}
+use Rattle.numbers.specs.SevenBit.{IsByte}
 use Rattle.book.specs.rules.Words.{resting}
+use Rattle.engine.specs.declared.Entry.{Entry}
 use Rattle.engine.specs.declared.Event.{Event}
+use Rattle.engine.specs.declared.Event.the-variants.{OwnedEntry as ownedEntry}
 use Rattle.engine.specs.rules.Records.{recordAt}
-use Rattle.engine.specs.claims.Owners.{FirmsApartInCalls, Unowned, NamesNoOwner, CallAsBefore}
+use Rattle.engine.specs.claims.Owners.{FirmsApartInCalls, Unowned, NamesNoOwner, UnownedCallAsBefore, AloneInBytes}
 use Rattle.host.specs.rules.Host.{outcomeOf}
 use Rattle.host.specs.claims.Calls.{HostOpened, HostApplied}
 use Rattle.host.specs.claims.HostCalls.{eventCalls, appliedCall}
@@ -25,4 +28,10 @@ NoFirmTradesWithItselfForHosts =
 abbrev pub UnownedCallsAsBeforeForHosts : Type 0
 UnownedCallsAsBeforeForHosts =
     (w bytes b : List ℕ) (answer : ℕ) (w′ b′ : List ℕ) → HostApplied w bytes b answer w′ b′ →
-    (r : Read Event) → recordAt bytes 0 ≡ gives r → All Unowned (resting w) → NamesNoOwner (r .value) → CallAsBefore w (r .value) b (outcomeOf answer) w′ b′
+    (r : Read Event) → recordAt bytes 0 ≡ gives r → All Unowned (resting w) → NamesNoOwner (r .value) → UnownedCallAsBefore w (r .value) b (outcomeOf answer) w′ b′
+
+-- a call of venue_apply that accepts an entry of kind 6: by its report bytes it executes with others what it would if its owner's orders weren't there
+abbrev pub TradesAsIfAloneForHosts : Type 0
+TradesAsIfAloneForHosts =
+    (w bytes b : List ℕ) (answer : ℕ) (w′ b′ : List ℕ) → All IsByte bytes → HostApplied w bytes b answer w′ b′ → answer < 65_536 →
+    (e : Entry) (k end : ℕ) → recordAt bytes 0 ≡ gives (record { value = ownedEntry e k; end = end }) → AloneInBytes w e k b′ answer

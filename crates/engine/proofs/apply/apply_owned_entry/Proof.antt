@@ -3,7 +3,6 @@ use Prim.Native.Nat.{ℕ}
 use native.Mathlib.Omega.{arith}
 use mathlib.Core.Path.{_≡_, sym, ap, _∙_, subst}
 use mathlib.Core.List.{List}
-use mathlib.Core.Option.{Option}
 use Rattle.engine.specs.declared.Entry.{Entry}
 use Rattle.engine.specs.declared.Event.{Event}
 use Rattle.engine.specs.declared.Event.the-variants.{OwnedEntry as ownedEntry}
@@ -23,7 +22,7 @@ use Rattle.engine.proofs.apply.apply_owned_entry.Tie as tie
 -- what was asked of the entry and of its owner is what the kind is refused for
 by-kind : (v : Venue) (e : Entry) (k : ℕ) (o r t : MayRefuse) → refusedWith o ≡ refusalOfOwner k → refusedWith r ≡ refusalOfEntry v e (refusedWith o) → r ≡ t → refusalOfKind v (ownedEntry e k) ≡ refusedWith t
 unfolding refusalOfKind
-by-kind v e k o r t ofOwner judged h = ap (refusalOfEntry v e) (sym ofOwner) ∙ sym judged ∙ ap refusedWith h
+by-kind v e k o r t ofOwner ofEntry h = ap (refusalOfEntry v e) (sym ofOwner) ∙ sym ofEntry ∙ ap refusedWith h
 
 owner-refusal-requires : tie.Need-owner-refusal-requires
 owner-refusal-requires c κs = search needs
