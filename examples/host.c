@@ -1,5 +1,5 @@
-/* A host program in C: checks event records, asks for permitted prices at both steps, watches a close, applies single events by venue_apply and asks
-   whether entries would fill.
+/* A host program in C: checks event records, asks for permitted prices at both steps, watches a close, applies single events by venue_apply, those of a
+   firm among them, and asks whether entries would fill.
    Build and run, from the repository's root:
    rt staticlib host && cc -Wall -Wextra -Iinclude examples/host.c target/staticlib/libhost.a -o target/host && target/host */
 #include <inttypes.h>
@@ -49,15 +49,20 @@ int main(void)
     static const uint8_t entry[] = {0x01, 0x01, 0x02, 0x84, 0xC3, 0x05, 0xF4, 0x03, 0x01, 0x00, 0x00, 0xFF, 0xFF};
     /* entry 2 0 90500 500 1 0 1: a buy with a slide */
     static const uint8_t buy_with_slide[] = {0x01, 0x02, 0x00, 0x84, 0xC3, 0x05, 0xF4, 0x03, 0x01, 0x00, 0x01};
+    /* kind 6, an entry with an owner: 3 1 90400 100 1 0 0 7, a sell of firm 7; 4 0 90400 100 1 0 0 7, a buy of that firm, which cancels it; 5 0 90400 100 1 0 0 0,
+       which names no firm */
+    static const uint8_t firm_sells[] = {0x06, 0x03, 0x01, 0xA0, 0xC2, 0x05, 0x64, 0x01, 0x00, 0x00, 0x07};
+    static const uint8_t firm_buys[] = {0x06, 0x04, 0x00, 0xA0, 0xC2, 0x05, 0x64, 0x01, 0x00, 0x00, 0x07};
+    static const uint8_t no_firm[] = {0x06, 0x05, 0x00, 0xA0, 0xC2, 0x05, 0x64, 0x01, 0x00, 0x00, 0x00};
     static const uint8_t last_group_0[] = {0x03, 0x83, 0x00};
-    static const uint8_t kind_6[] = {0x06, 0x01};
+    static const uint8_t kind_7[] = {0x07, 0x01};
     static const uint8_t field_2_32[] = {0x02, 0x80, 0x80, 0x80, 0x80, 0x10};
 
     check("bid 91100", bid, sizeof bid);
     check("entry", entry, sizeof entry);
     check("bid cut short", bid, sizeof bid - 1);
     check("last group 0 after another", last_group_0, sizeof last_group_0);
-    check("kind 6", kind_6, sizeof kind_6);
+    check("kind 7", kind_7, sizeof kind_7);
     check("a field of 2^32", field_2_32, sizeof field_2_32);
     check("empty", bid, 0);
     price("no bid", VENUE_CENT, 0);
@@ -84,6 +89,9 @@ int main(void)
     apply("entry", words, entry, sizeof entry);
     apply("entry again", words, entry, sizeof entry);
     apply("buy with a slide", words, buy_with_slide, sizeof buy_with_slide);
+    apply("firm 7 sells", words, firm_sells, sizeof firm_sells);
+    apply("firm 7 buys", words, firm_buys, sizeof firm_buys);
+    apply("owner 0", words, no_firm, sizeof no_firm);
     ask(words, 0, 90500, 500);
     ask(words, 0, 90400, 500);
     ask(words, 0, 0, 501);

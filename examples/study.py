@@ -43,7 +43,7 @@ VENUE_REPORTS_FULL = int(DEFINED["VENUE_REPORTS_FULL"])
 
 class Order(Structure):
     """The header's struct venue_order: one word a field."""
-    FIELDS = "id mark limit shares show life slide stamp price entry_bid adjusted used clear market"
+    FIELDS = "id mark limit shares show life slide stamp price entry_bid adjusted used clear market owner"
     _fields_ = [(name, c_uint32) for name in FIELDS.split()]
 
 

@@ -63,6 +63,7 @@ struct Order {
     used: bool,
     clear: bool,
     market: bool,
+    owner: u32,
 }
 
 impl Order {
@@ -99,6 +100,7 @@ fn conditions(o: &Order, last_id: u32, last_stamp: u32) -> bool {
         && legal(o.price)
         && is_bid(o.entry_bid)
         && (!o.market || (o.mark == 2 && o.limit == 1))
+        && o.owner <= 65_535
 }
 
 impl Plain {
@@ -176,6 +178,7 @@ impl Plain {
             used: false,
             clear: false,
             market: false,
+            owner: 0,
         };
         if self.0.last().map_or(true, |x| x.id <= id) {
             self.0.push(o);

@@ -1,22 +1,22 @@
 -- A working order trades with others as if its owner's orders weren't there. Assumes nothing.
-use Prim.Native.Nat.{ℕ, zero, suc, _≤_, _<_, min}
+use Prim.Native.Nat.{ℕ, zero, suc, _<_, min}
 use native.Mathlib.Omega.{arith}
 use native.Mathlib.Decide.{ℕ-discrete}
 use mathlib.Core.Path.{_≡_, refl, sym, ap, _∙_, subst}
 use mathlib.Core.Bool.{Bool, true, false, not}
-use mathlib.Core.Logic.{_⊎_, inl, inr}
+use mathlib.Core.Logic.{inl, inr}
 use mathlib.Core.Option.{Option, none, some}
-use mathlib.Core.List.{List, [], _∷_, _++_, foldl, List·Memᴰ, List·Memᴰ·head, List·Memᴰ·tail}
+use mathlib.Core.List.{List, [], _∷_, foldl, List·Memᴰ, List·Memᴰ·head, List·Memᴰ·tail}
 use lib.Dec.{T, leb, ltb, eqb, ltb→lt, lt→ltb, T-not}
 use lib.ListN.{length}
 use Rattle.numbers.specs.Tests.{pick, All}
-use Rattle.numbers.proofs.TestLaws.{by-test, pick-yes, pick-no, T-false, tests, all-map, all-both}
+use Rattle.numbers.proofs.TestLaws.{by-test, pick-yes, T-false, all-map, all-both}
 use Rattle.book.specs.declared.Order.{Order}
 use Rattle.book.specs.rules.Orders.{reduced, without, insert}
-use Rattle.book.specs.rules.Matching.{reaches, better, counterparty, Execution, execution, afterTrade, Happening, traded, withdrawn, Meeting, trading, withdrawing, sameOwner, meeting, Matched, matchingWith, matchingUpTo, matching}
+use Rattle.book.specs.rules.Matching.{reaches, better, counterparty, Execution, execution, afterTrade, Happening, Meeting, trading, withdrawing, sameOwner, meeting, Matched, matchingWith, matchingUpTo, matching}
 use Rattle.book.specs.claims.OnlyTrading.{tradingWith, tradingUpTo, onlyTrading}
-use Rattle.book.specs.claims.OwnOrders.{others, executionsOf, OwnOrder, WithdrawsOwn, AsIfAlone, TradesAsIfAlone}
-use Rattle.book.proofs.definitions.OrderLaws.{idOf, stampOf, Other, Differ, Distinct, all-taken, mem-taken, taken-all, taken-mem, insert-taken, without-none, without-all, without-differ, without-other, all-members, same-id}
+use Rattle.book.specs.claims.OwnOrders.{others, executionsOf, WithdrawsOwn, TradesAsIfAlone}
+use Rattle.book.proofs.definitions.OrderLaws.{idOf, stampOf, Other, Differ, Distinct, all-taken, insert-taken, without-none, without-all, without-differ, all-members, same-id}
 use Rattle.book.proofs.definitions.RisingLaws.{Rises, idsRise-rises, rises-all, rises-distinct, rises-without, rises-afterTrade}
 use Rattle.book.proofs.definitions.CounterpartyLaws.{Unreached, Reached, counterparty-reached}
 use Rattle.book.proofs.definitions.PriorityLaws.{better-total, counterparty-best}

@@ -5,7 +5,7 @@ use mathlib.Core.List.{List, [], _∷_, List·Memᴰ}
 use lib.Dec.{T}
 use Rattle.numbers.specs.Tests.{pick, All}
 use Rattle.book.specs.declared.Order.{Order}
-use Rattle.book.specs.rules.Matching.{Execution, Happening, traded, withdrawn, sameOwner, Matched, matching}
+use Rattle.book.specs.rules.Matching.{Execution, Happening, traded, withdrawn, sameOwner, matching}
 use Rattle.book.specs.rules.Sound.{idsRise, stampsDiffer}
 use Rattle.book.specs.claims.OnlyTrading.{onlyTrading}
 
