@@ -11,13 +11,13 @@
 #include <string.h>
 #include <venue.h>
 
-enum { ENTRY = 1, CANCEL = 2, BID = 3, TAPE = 4, DAY_END = 5 };
+enum { ENTRY = 1, CANCEL = 2, BID = 3, TAPE = 4, DAY_END = 5, OWNED_ENTRY = 6 };
 
 /* An event: what the table calls it, and the numbers of its record, the kind and its fields. */
 struct event {
     const char *what;
     int count;
-    uint32_t numbers[8];
+    uint32_t numbers[9];
 };
 
 static const struct event day[] = {
@@ -32,12 +32,12 @@ static const struct event day[] = {
     {"2 buys 200, 90600", 8, {ENTRY, 2, 0, 90600, 200, 1, 0, 0}},
     {"bid 90000", 2, {BID, 90000}},
     {"cancel 2", 2, {CANCEL, 2}},
-    /* a price of 0 means market: this one follows the bid */
-    {"3 sells 100 short", 8, {ENTRY, 3, 2, 0, 100, 1, 0, 0}},
+    /* a price of 0 means market: this one follows the bid; it is of firm 9 */
+    {"3 sells 100 short", 9, {OWNED_ENTRY, 3, 2, 0, 100, 1, 0, 0, 9}},
     {"day end, close 90000", 2, {DAY_END, 90000}},
 };
 
-/* A record has up to 8 numbers of up to 5 bytes. The lengths of reports and ends are those that the header advises. */
+/* A record has up to 9 numbers of up to 5 bytes. The lengths of reports and ends are those that the header advises. */
 enum { EVENTS = sizeof day / sizeof day[0], RECORD_BYTES = 40, REPORT_BYTES = 1048576, ENDS = 65536 };
 
 static uint32_t words[VENUE_WORDS];
@@ -134,7 +134,7 @@ static void print_event(const struct event *event, const uint8_t *bytes, const u
         bytes = get_number(bytes, &kind);
         for (int i = 0; i < fields[kind]; i++)
             bytes = get_number(bytes, &f[i]);
-        take_report(kind, f, numbers[0] == ENTRY ? numbers[4] : 0, text, sizeof text);
+        take_report(kind, f, numbers[0] == ENTRY || numbers[0] == OWNED_ENTRY ? numbers[4] : 0, text, sizeof text);
         snprintf(line + strlen(line), sizeof line - strlen(line), "%s%s", line[0] ? "; " : "", text);
     }
     if (!refused && numbers[0] == BID)
@@ -181,8 +181,8 @@ static void show_book(void)
     for (uint32_t i = 0; i < count; i++) {
         const struct venue_order *o = &run[i];
         printf("resting: order %" PRIu32 ", %" PRIu32 " left at %" PRIu32 ", limit %" PRIu32 ", entry bid %" PRIu32 ", adjusted %" PRIu32 ", used %" PRIu32
-               ", clear %" PRIu32 ", market %" PRIu32 "; displayed there: %" PRIu64 "\n",
-               o->id, o->shares, o->price, o->limit, o->entry_bid, o->adjusted, o->used, o->clear, o->market,
+               ", clear %" PRIu32 ", market %" PRIu32 ", owner %" PRIu32 "; displayed there: %" PRIu64 "\n",
+               o->id, o->shares, o->price, o->limit, o->entry_bid, o->adjusted, o->used, o->clear, o->market, o->owner,
                venue_depth(run, count, o->price, o->mark));
     }
 }

@@ -10,7 +10,7 @@ rt staticlib host && cc -shared -o target/libvenue.so -Wl,--whole-archive target
 import re
 from ctypes import CDLL, POINTER, Structure, byref, c_size_t, c_uint8, c_uint32, c_uint64
 
-ENTRY, CANCEL, BID, TAPE, DAY_END = 1, 2, 3, 4, 5
+ENTRY, CANCEL, BID, TAPE, DAY_END, OWNED_ENTRY = 1, 2, 3, 4, 5, 6
 
 # the events: what the table calls each, and the numbers of its record, the kind and its fields
 DAY = [
@@ -25,8 +25,8 @@ DAY = [
     ("2 buys 200, 90600", (ENTRY, 2, 0, 90600, 200, 1, 0, 0)),
     ("bid 90000", (BID, 90000)),
     ("cancel 2", (CANCEL, 2)),
-    # a price of 0 means market: this one follows the bid
-    ("3 sells 100 short", (ENTRY, 3, 2, 0, 100, 1, 0, 0)),
+    # a price of 0 means market: this one follows the bid; it is of firm 9
+    ("3 sells 100 short", (OWNED_ENTRY, 3, 2, 0, 100, 1, 0, 0, 9)),
     ("day end, close 90000", (DAY_END, 90000)),
 ]
 
@@ -126,7 +126,7 @@ def print_event(what, numbers, data):
     global bid
     refused = data[:1] == [0]
     rest = numbers_of(data)
-    entered = numbers[4] if numbers[0] == ENTRY else 0
+    entered = numbers[4] if numbers[0] in (ENTRY, OWNED_ENTRY) else 0
     line = "; ".join(take_report(kind, rest, entered) for kind in rest)
     if not refused and numbers[0] == BID:
         bid = numbers[1]
@@ -162,7 +162,7 @@ def show_book():
     for o in run[:count]:
         shown = venue.venue_depth(run, count, o.price, o.mark)
         print(f"resting: order {o.id}, {o.shares} left at {o.price}, limit {o.limit}, entry bid {o.entry_bid}, adjusted {o.adjusted}, "
-              f"used {o.used}, clear {o.clear}, market {o.market}; displayed there: {shown}")
+              f"used {o.used}, clear {o.clear}, market {o.market}, owner {o.owner}; displayed there: {shown}")
 
 
 def main():
