@@ -6,7 +6,7 @@ ghost use Prim.Native.Nat.{_<_, _≤_};
 ghost use lib.Dec.{T};
 ghost use lib.ListN.{length};
 ghost use Rattle.prices.specs.Prices.{isStep};
-ghost use Rattle.book.specs.rules.Sound.{soundOrder};
+ghost use Rattle.book.specs.rules.Sound.{mostOwner, soundOrder};
 ghost use Rattle.book.specs.rules.Words.{venueWords, word, orderAt, headerLaidOut, soundBook};
 ghost use Rattle.book.specs.steps.RecordWalk.{fromOne, codesSound, pricesSound, bitsAt, marketAt, idBefore, bucketOf, stampSeen, lastIn, Linked, soundAt};
 
@@ -16,14 +16,12 @@ pub const MOST_SHARES: u32 = 1_000_000;
 
 pub const MOST_OWNER: u32 = 65_535;
 
-// Whether mark, life, slide and owner are in range.
-fn codes_sound(mark: u32, life: u32, slide: u32, owner: u32) -> bool
-    ensures { λ r. ⌜ r ≡ codesSound mark life slide owner ⌝ }
+const HALF_OF_OWNERS: u32 = 32_768;
+
+fn codes_sound(mark: u32, life: u32, slide: u32) -> bool
+    ensures { λ r. ⌜ r ≡ codesSound mark life slide ⌝ }
 {
     if life > 0 {
-        return false;
-    }
-    if owner > MOST_OWNER {
         return false;
     }
     if mark == 2 {
@@ -61,9 +59,9 @@ fn from_one(x: u32, highest: u32) -> bool
     x <= highest
 }
 
-// Whether an order is sound whose show is 0 or 1 and whose market flag is allowed.
+// Whether an order is sound whose show is 0 or 1, whose owner is in range and whose market flag is allowed.
 fn order_sound(w: &[u32], i: usize, step: u32, last_id: u32, last_stamp: u32) -> bool
-    requires { ⌜ (venueWords ≤ length (now w)) × (i < 256) × (word (now w) i 4 ≤ 1) × T (marketAt (now w) i) × T (isStep step) ⌝ }
+    requires { ⌜ (venueWords ≤ length (now w)) × (i < 256) × (word (now w) i 4 ≤ 1) × (word (now w) i 14 ≤ mostOwner) × T (marketAt (now w) i) × T (isStep step) ⌝ }
     ensures { λ r. ⌜ r ≡ soundOrder step «last_id» «last_stamp» (orderAt (now (w .entry)) i) ⌝ }
 {
     if words::word_at(w, i, words::ID) > last_id {
@@ -75,7 +73,6 @@ fn order_sound(w: &[u32], i: usize, step: u32, last_id: u32, last_stamp: u32) ->
                 words::word_at(w, i, words::MARK),
                 words::word_at(w, i, words::LIFE),
                 words::word_at(w, i, words::SLIDE),
-                words::word_at(w, i, words::OWNER),
             ) {
                 return prices_sound(
                     step,
@@ -89,7 +86,7 @@ fn order_sound(w: &[u32], i: usize, step: u32, last_id: u32, last_stamp: u32) ->
     false
 }
 
-// Whether show and the flags are each 0 or 1: none of them has another bit than the lowest.
+// Whether show and the flags are each 0 or 1 and the owner is in range: none of them has another bit than the lowest, the owner being divided by 32,768.
 fn bits_sound(w: &[u32], i: usize) -> bool
     requires { ⌜ (venueWords ≤ length (now w)) × (i < 256) ⌝ }
     ensures { λ r. ⌜ r ≡ bitsAt (now (w .entry)) i ⌝ }
@@ -99,7 +96,8 @@ fn bits_sound(w: &[u32], i: usize) -> bool
     let used = words::word_at(w, i, words::USED);
     let clear = words::word_at(w, i, words::CLEAR);
     let market = words::word_at(w, i, words::MARKET);
-    (show | (adjusted | (used | (clear | market)))) <= 1
+    let owner = words::word_at(w, i, words::OWNER);
+    (show | (owner / HALF_OF_OWNERS | (adjusted | (used | (clear | market))))) <= 1
 }
 
 // Whether a market flag stands on a short with limit 1, or there is none.

@@ -16,8 +16,8 @@ use Rattle.book.specs.rules.Words.{word, orderAt, flagsAt}
 unfoldable pub fromOne : ℕ → ℕ → Bool
 fromOne x highest = leb 1 x && leb x highest
 
-unfoldable pub codesSound : ℕ → ℕ → ℕ → ℕ → Bool
-codesSound mark life slide owner = eqb life 0 && (leb owner mostOwner && (leb mark 3 && slideAllowed mark slide))
+unfoldable pub codesSound : ℕ → ℕ → ℕ → Bool
+codesSound mark life slide = eqb life 0 && (leb mark 3 && slideAllowed mark slide)
 
 unfoldable pub pricesSound : ℕ → ℕ → ℕ → ℕ → Bool
 pricesSound step limit price bid = legal step limit && (legal step price && isBid step bid)
@@ -53,9 +53,9 @@ abbrev pub idBefore : List ℕ → ℕ → ℕ
 idBefore w zero = 0
 idBefore w (suc i) = word w i 0
 
--- show and the flags of place i are each 0 or 1
+-- show and the flags of place i are each 0 or 1, and its owner is in range
 unfoldable pub bitsAt : List ℕ → ℕ → Bool
-bitsAt w i = leb (word w i 4) 1 && flagsAt w i
+bitsAt w i = leb (word w i 4) 1 && (leb (word w i 14) mostOwner && flagsAt w i)
 
 -- place i by itself and beside the place before it
 unfoldable pub soundAt : ℕ → ℕ → ℕ → List ℕ → ℕ → Bool
