@@ -13,25 +13,28 @@ ghost use Rattle.book.specs.steps.BookSteps.{Book};
 ghost use Rattle.book.specs.declared.Position.the-variants.{At};
 ghost use Rattle.book.specs.steps.Positions.{IsAt, Found, FirstReached, considered};
 
-// What puts a price out of reach of every other: 2^32 where the orders aren't opposite.
+// What puts a price out of reach of every other.
+const OUT_OF_REACH: u64 = 4_294_967_296;
+
+// The same where the orders aren't opposite.
 fn out_of_reach(opposite: bool) -> u64
     ensures { λ r. ⌜ (r ≡ pick opposite 0 4_294_967_296) × (r ≤ 4_294_967_296) ⌝ }
 {
     if opposite {
         return 0;
     }
-    4_294_967_296
+    OUT_OF_REACH
 }
 
 // Whether the working order o reaches the resting order x. One comparison tests side and price: the side of the next order can't be foretold, so
-// no branch goes by it.
+// no branch goes by it. A sell reaches buys, whose mark is 0.
 pub(crate) fn reaches(o: Order, x: Order) -> bool
     ensures { λ r. ⌜ r ≡ Matching.reaches o x ⌝ }
 {
     if o.mark == 0 {
         return out_of_reach(x.mark != 0) + (x.price as u64) <= (o.price as u64);
     }
-    out_of_reach(x.mark == 0) + (o.price as u64) <= (x.price as u64)
+    (x.mark as u64) * OUT_OF_REACH + (o.price as u64) <= (x.price as u64)
 }
 
 // Whether, for an order of a mark, price p is better than price q.

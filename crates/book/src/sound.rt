@@ -16,7 +16,7 @@ pub const MOST_SHARES: u32 = 1_000_000;
 
 pub const MOST_OWNER: u32 = 65_535;
 
-const HALF_OF_OWNERS: u32 = 32_768;
+const HALF_OF_OWNERS: u32 = MOST_OWNER / 2 + 1;
 
 fn codes_sound(mark: u32, life: u32, slide: u32) -> bool
     ensures { λ r. ⌜ r ≡ codesSound mark life slide ⌝ }

@@ -1,7 +1,7 @@
 -- `reaches` by the side of the working order. Assumes nothing.
-use Prim.Native.Nat.{ℕ, _+_, _<_}
+use Prim.Native.Nat.{ℕ, zero, suc, _+_, _*_, _<_}
 use native.Mathlib.Omega.{arith}
-use mathlib.Core.Path.{_≡_, ap, _∙_}
+use mathlib.Core.Path.{_≡_, sym, ap, _∙_}
 use mathlib.Core.Bool.{Bool, true, false, not, _&&_}
 use lib.Dec.{leb, eqb}
 use borrow.Author.Needs.{needs}
@@ -17,6 +17,12 @@ joined : (b : Bool) (p q : ℕ) {s : ℕ} → q < 4_294_967_296 → s ≡ pick b
 unfolding pick
 joined true p q h e = ap (λ (n : ℕ). leb n q) (omega (arith, e))
 joined false p q {s} h e = lt-leb (s + p) q (omega (arith, e, h))
+
+-- the same where the test is that a mark is 0
+by-mark : (k p q : ℕ) → q < 4_294_967_296 → leb (k * 4_294_967_296 + p) q ≡ (eqb k 0 && leb p q)
+by-mark zero p q h = ap (λ (n : ℕ). leb n q) (omega arith)
+by-mark (suc k) p q h =
+    lt-leb (suc k * 4_294_967_296 + p) q (omega arith) ∙ sym (ap (λ (b : Bool). b && leb p q) (ne-eqb (suc k) 0 (λ e. omega arith)))
 
 -- the two sides
 
@@ -45,22 +51,25 @@ returns c =
     let s = c .before .before .before .before .before .before in
     joined (not (eqb (s .args .x .mark) 0)) (s .args .x .price) (s .args .o .price) (omega (arith, c .struct-known4 .given)) (c .before .before .out-of-reach .ensures .0) ∙ buys (s .args .o) (s .args .x) (c .before .before .before .before .if1 .taken)
 
-out-of-reach-requires-2 : tie.Need-out-of-reach-requires-2
-out-of-reach-requires-2 c κs = search needs
-
 cast-result-3 : tie.Need-cast-result-3
 cast-result-3 c = search needs
 
-add-result-2 : tie.Need-add-result-2
-add-result-2 c = omega (arith, c .before .out-of-reach2 .ensures .1, c .struct-known6 .given)
+mul-result : tie.Need-mul-result
+mul-result c = search needs
 
 cast-result-4 : tie.Need-cast-result-4
 cast-result-4 c = search needs
 
+add-result-2 : tie.Need-add-result-2
+add-result-2 c = search needs
+
+cast-result-5 : tie.Need-cast-result-5
+cast-result-5 c = search needs
+
 returns-2 : tie.Need-returns-2
 returns-2 c =
-    let s = c .before .before .before .before .before .before in
-    joined (eqb (s .args .x .mark) 0) (s .args .o .price) (s .args .x .price) (omega (arith, c .struct-known7 .given)) (c .before .before .out-of-reach2 .ensures .0) ∙ sells (s .args .o) (s .args .x) (c .before .before .before .before .if1 .left)
+    let s = c .before .before .before .before .before in
+    by-mark (s .args .x .mark) (s .args .o .price) (s .args .x .price) (omega (arith, c .struct-known7 .given)) ∙ sells (s .args .o) (s .args .x) (c .before .before .before .if1 .left)
 
 pub reaches-spec : {M : Type 1} → statement M
 reaches-spec =
@@ -71,8 +80,9 @@ reaches-spec =
     add-result
     cast-result-2
     returns
-    out-of-reach-requires-2
     cast-result-3
-    add-result-2
+    mul-result
     cast-result-4
+    add-result-2
+    cast-result-5
     returns-2)
