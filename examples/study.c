@@ -38,7 +38,7 @@ static const struct event day[] = {
 };
 
 /* A record has up to 9 numbers of up to 5 bytes. The lengths of reports and ends are those that the header advises. */
-enum { EVENTS = sizeof day / sizeof day[0], RECORD_BYTES = 40, REPORT_BYTES = 1048576, ENDS = 65536 };
+enum { EVENTS = sizeof day / sizeof day[0], RECORD_BYTES = 45, REPORT_BYTES = 1048576, ENDS = 65536 };
 
 static uint32_t words[VENUE_WORDS];
 static uint8_t records[EVENTS * RECORD_BYTES];

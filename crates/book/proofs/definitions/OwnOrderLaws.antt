@@ -15,7 +15,7 @@ use Rattle.book.specs.declared.Order.{Order}
 use Rattle.book.specs.rules.Orders.{reduced, without, insert}
 use Rattle.book.specs.rules.Matching.{reaches, better, counterparty, Execution, execution, afterTrade, Happening, Meeting, trading, withdrawing, sameOwner, meeting, Matched, matchingWith, matchingUpTo, matching}
 use Rattle.book.specs.claims.OnlyTrading.{tradingWith, tradingUpTo, onlyTrading}
-use Rattle.book.specs.claims.OwnOrders.{others, executionsOf, WithdrawsOwn, TradesAsIfAlone}
+use Rattle.book.specs.claims.OwnOrders.{others, executionsOf, WithdrawsOwn, TradesAsWithoutOwn}
 use Rattle.book.proofs.definitions.OrderLaws.{idOf, stampOf, Other, Differ, Distinct, all-taken, insert-taken, without-none, without-all, without-differ, all-members, same-id}
 use Rattle.book.proofs.definitions.RisingLaws.{Rises, idsRise-rises, rises-all, rises-distinct, rises-without, rises-afterTrade}
 use Rattle.book.proofs.definitions.CounterpartyLaws.{Unreached, Reached, counterparty-reached}
@@ -266,9 +266,9 @@ module _ (w : Order) (os : List Order) where
       let k = matching-keeps (λ (l : List Happening) (x : Happening). x ∷ l) Kept withdraws-own w os [] (refl, d, all-map (λ o m t. m) os (all-members os), tt) in
       consed-all (WithdrawsOwn w os) [] (matching w os .happenings) (k .3) .1
 
-pub trades-as-if-alone : TradesAsIfAlone
+pub trades-as-without-own : TradesAsWithoutOwn
 unfolding matching onlyTrading
-trades-as-if-alone w os i j =
+trades-as-without-own w os i j =
     let r = idsRise-rises 0 os i in
     let s = same-upTo (length os) (length (others w os)) w os r (stampsDiffer-differ os j) (inr (omega arith)) (inr (omega arith)) in
     record { executions = s .executions; left = s .left; orders = s .orders; withdrawals = all-own w os (rises-distinct 0 os r) }

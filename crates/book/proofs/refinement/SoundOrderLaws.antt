@@ -79,7 +79,7 @@ both-bits a b = bool-ext _ _ there back
 more-bits : (a b : ℕ) {t : Bool} → leb b 1 ≡ t → leb (bitOr a b) 1 ≡ (leb a 1 && t)
 more-bits a b h = both-bits a b ∙ ap (λ (x : Bool). leb a 1 && x) h
 
--- the upper half of an owner is one bit just where the owner is in range
+-- an owner divided by 32,768 is 0 or 1 just where it is in range
 owner-bit : (k : ℕ) → leb (k / 32_768) 1 ≡ leb k mostOwner
 owner-bit k = bool-ext _ _ (λ t. le→leb k mostOwner (omega (arith, leb→le (k / 32_768) 1 t))) (λ t. le→leb (k / 32_768) 1 (omega (arith, leb→le k mostOwner t)))
 

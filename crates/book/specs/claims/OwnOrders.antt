@@ -1,4 +1,5 @@
--- Document 02, No. 7: a working order trades with others as if its owner's orders weren't there, and those that it meets are cancelled. Assumes nothing.
+-- Document 02, No. 7: a working order trades with others as if its owner's orders then resting weren't there. Which of these are withdrawn is the rule's (`meeting`). Assumes
+-- nothing.
 use Prim.Native.Nat.{ℕ}
 use mathlib.Core.Path.{_≡_}
 use mathlib.Core.List.{List, [], _∷_, List·Memᴰ}
@@ -32,14 +33,14 @@ abbrev pub WithdrawsOwn : Order → List Order → Happening → Type 0
 WithdrawsOwn w os (traded x) = Unit {0}
 WithdrawsOwn w os (withdrawn i q) = OwnOrder w os i q
 
--- the executions, what is left of the working order and what is left of others' orders are those of a book without its owner's; those of its owner's that are
--- withdrawn go with all their shares
-pub record AsIfAlone (w : Order) (os : List Order) : Type 0 where
+-- the executions, what is left of the working order and what is left of others' orders are those of a book without its owner's; what is withdrawn
+-- are resting orders of its owner, with all their shares
+pub record AsWithoutOwn (w : Order) (os : List Order) : Type 0 where
   pub executions : executionsOf (matching w os .happenings) ≡ executionsOf (onlyTrading w (others w os) .happenings)
   pub left : matching w os .left ≡ onlyTrading w (others w os) .left
   pub orders : others w (matching w os .orders) ≡ onlyTrading w (others w os) .orders
   pub withdrawals : All (WithdrawsOwn w os) (matching w os .happenings)
 
 -- of every book as a sound venue record has it
-abbrev pub TradesAsIfAlone : Type 0
-TradesAsIfAlone = (w : Order) (os : List Order) → T (idsRise 0 os) → T (stampsDiffer os) → AsIfAlone w os
+abbrev pub TradesAsWithoutOwn : Type 0
+TradesAsWithoutOwn = (w : Order) (os : List Order) → T (idsRise 0 os) → T (stampsDiffer os) → AsWithoutOwn w os

@@ -1,5 +1,5 @@
--- No. 7: no firm trades with itself, over every list of events; with owner 0 everywhere every event is as before; an entry trades as if its owner's orders weren't
--- there. Assumes nothing.
+-- No. 7: no firm trades with itself, over every list of events; with owner 0 everywhere every event is as before; an order trades as without its owner's. Assumes
+-- nothing.
 use Prim.Native.Nat.{ℕ, _+_, _<_, min}
 use native.Mathlib.Omega.{arith}
 use mathlib.Core.Path.{_≡_, refl, ap, sym, _∙_, subst}
@@ -18,14 +18,14 @@ use Rattle.book.specs.rules.Matching.{Execution, Happening, traded, withdrawn, 
 use Rattle.book.specs.rules.Sound.{idsRise, stampsDiffer}
 use Rattle.book.specs.rules.Words.{isBook}
 use Rattle.book.specs.claims.OwnOrders.{executionsOf}
-use Rattle.book.proofs.definitions.OrderLaws.{idOf, Other, Distinct, taken-all, mem-taken, without-all, without-other, without-differ, Found, find-found}
+use Rattle.book.proofs.definitions.OrderLaws.{idOf, stampOf, Other, Distinct, taken-all, mem-taken, without-all, without-other, without-differ, Found, find-found}
 use Rattle.book.proofs.definitions.CounterpartyLaws.{Reached}
 use Rattle.book.proofs.definitions.MeetingLaws.{execution-by, trading-known, withdrawing-known, meeting-by-owner}
 use Rattle.book.proofs.definitions.MatchingLaws.{afterTrade-all, afterTrade-differ, matching-keeps}
-use Rattle.book.proofs.definitions.RisingLaws.{rises-idsRise}
+use Rattle.book.proofs.definitions.RisingLaws.{idsRise-rises, rises-idsRise, rises-without}
 use Rattle.book.proofs.definitions.OnlyTradingLaws.{unowned-only-trades}
-use Rattle.book.proofs.definitions.OwnOrderLaws.{trades-as-if-alone}
-use Rattle.book.proofs.refinement.SoundBookLaws.{differ-stampsDiffer}
+use Rattle.book.proofs.definitions.OwnOrderLaws.{trades-as-without-own}
+use Rattle.book.proofs.refinement.SoundBookLaws.{stampsDiffer-differ, differ-stampsDiffer}
 use Rattle.engine.specs.declared.Market.{Market}
 use Rattle.engine.specs.declared.Entry.{Entry}
 use Rattle.engine.specs.declared.Event.{Event}
@@ -48,7 +48,7 @@ use Rattle.engine.specs.rules.Layout.{venueOf, stepIn}
 use Rattle.engine.specs.steps.Steps.{moveInPass}
 use Rattle.engine.specs.claims.Account.{setAt}
 use Rattle.engine.specs.claims.Calls.{AppliedCall, Chain}
-use Rattle.engine.specs.claims.Owners.{Owners, noOwners, ownersAfter, worksNow, readOwners, ownersBy, ownersFrom, ownersOf, FirmsApart, NoFirmTradesWithItself, OwnersShown, OwnersAreShown, FirmsApartInCalls, NoFirmTradesWithItselfInCalls, unownedWork, unownedEntering, unownedMove, unownedTurn, unownedPass, unownedEffect, unownedUnless, unownedStep, Unowned, NamesNoOwner, UnownedAsBefore, KindOneAsBefore, unownedStepIn, UnownedCallsAsBefore, executionsIn, executionsAlone, TradesAsIfAlone, AloneInBytes, TradesAsIfAloneInCalls}
+use Rattle.engine.specs.claims.Owners.{Owners, noOwners, ownersAfter, worksNow, readOwners, ownersBy, ownersFrom, ownersOf, FirmsApart, NoFirmTradesWithItself, OwnersShown, OwnersAreShown, FirmsApartInCalls, NoFirmTradesWithItselfInCalls, unownedWork, unownedEntering, unownedMove, unownedTurn, unownedPass, unownedEffect, unownedUnless, unownedStep, Unowned, NamesNoOwner, UnownedAsBefore, KindOneAsBefore, unownedStepIn, UnownedCallsAsBefore, executionsIn, executionsWithoutOwn, EntriesTradeAsWithoutOwn, RepricedTradeAsWithoutOwn, WithoutOwnInBytes, EntriesTradeAsWithoutOwnInCalls}
 use Rattle.engine.proofs.refinement.RefusalLaws.{EntryAllowed, Allowed, NotRefused, Unless, refusal-known}
 use Rattle.engine.proofs.refinement.OpeningLaws.{opening-known, opened-book, opened-venue, step-in}
 use Rattle.engine.proofs.demand3.MarketLaws.{HasPermitted}
@@ -206,9 +206,16 @@ unfolding pick
 all-cancelled c p [] = refl
 all-cancelled c p (o ∷ os) = all-cancelled c p os
 
+-- the beginning of an event with a column f of owners
+abbrev begun : (ℕ → ℕ) → Owners → Owners
+begun f c = record { owner = f; working = 0; trades = c.trades; withdrawals = c.withdrawals }
+
+begun-agrees : {os : List Order} {c : Owners} → Agrees os c → Agrees os (begun (c .owner) c)
+begun-agrees h = record { known = h .known; apart = record { trades = h .apart .trades; withdrawals = h .apart .withdrawals } }
+
 -- an entry of either kind, with its owner
 abbrev named : Entry → ℕ → Owners → Owners
-named e k c = record { owner = setAt (e .id) k (c .owner); working = c.working; trades = c.trades; withdrawals = c.withdrawals }
+named e k c = begun (setAt (e .id) k (c .owner)) c
 
 entry-agrees : (v : Venue) (e : Entry) (k : ℕ) (c : Owners) → EntryAllowed v e → SoundVenue v → Agrees (v .orders) c → let x : Effect = effectOfEntry (v .market) v k e in Agrees (x .orders) (foldl readOwners (named e k c) (x .reports))
 unfolding effectOfEntry entering orderOf
@@ -228,10 +235,10 @@ entry-agrees v e k c a g h =
 effect-agrees : (v : Venue) (e : Event) (c : Owners) → Allowed v e → SoundVenue v → Agrees (v .orders) c → let x : Effect = effectOf (marketAfter e (v .market)) v e in Agrees (x .orders) (foldl readOwners (ownersAfter e c) (x .reports))
 unfolding effectOf effectOfCancel effectOfDayEnd pick
 effect-agrees v (entry e) c a g h = entry-agrees v e 0 c a g h
-effect-agrees v (cancel i) c a g h = record { known = without-all (Knows c) i (v .orders) (h .known); apart = h .apart }
-effect-agrees v (bid b) c a g h = thePass-agrees _ (g .market .step, a) v c (g .book) h
-effect-agrees v (tape p) c a g h = tape-agrees _ (market-permits (g .market)) v c (g .book) h
-effect-agrees v (dayEnd p) c a g h = rw (all-cancelled c _ (v .orders)) (record { known = tt; apart = h .apart })
+effect-agrees v (cancel i) c a g h = record { known = without-all (Knows c) i (v .orders) (h .known); apart = begun-agrees h .apart }
+effect-agrees v (bid b) c a g h = thePass-agrees _ (g .market .step, a) v _ (g .book) (begun-agrees h)
+effect-agrees v (tape p) c a g h = tape-agrees _ (market-permits (g .market)) v _ (g .book) (begun-agrees h)
+effect-agrees v (dayEnd p) c a g h = rw (all-cancelled (begun (c .owner) c) _ (v .orders)) (record { known = tt; apart = begun-agrees h .apart })
 effect-agrees v (ownedEntry e k) c a g h = entry-agrees v e k c (a .0) g h
 
 -- every list
@@ -380,7 +387,7 @@ unowned-calls-as-before w e b answer w′ b′ a h o =
       unowned = subst (All Unowned) (sym (ap (λ (v : Venue). v .orders) (a .venue))) (r .1);
     }
 
--- As if its own orders weren't there
+-- As without its owner's orders
 
 executions-append : (rs qs : List Report) → executionsIn (rs ++ qs) ≡ executionsIn rs ++ executionsIn qs
 executions-append [] qs = refl
@@ -403,33 +410,39 @@ remainder-executes Filled w os = refl
 remainder-executes (Cancelled cause) w os = refl
 remainder-executes Rests w os = refl
 
-work-alone : (w : Order) (os : List Order) → T (idsRise 0 os) → T (stampsDiffer os) → executionsIn ((work w os) .reports) ≡ executionsAlone w os
+work-without-own : (w : Order) (os : List Order) → T (idsRise 0 os) → T (stampsDiffer os) → executionsIn ((work w os) .reports) ≡ executionsWithoutOwn w os
 unfolding work
-work-alone w os r d =
+work-without-own w os r d =
     let m : Matched = matching w os in
-    executions-append (map happened (m .happenings)) _ ∙ rw (happened-executions (m .happenings), remainder-executes (remainder (m .left)) (m .left) (m .orders), append-nil) (trades-as-if-alone w os r d .executions)
+    executions-append (map happened (m .happenings)) _ ∙ rw (happened-executions (m .happenings), remainder-executes (remainder (m .left)) (m .left) (m .orders), append-nil) (trades-as-without-own w os r d .executions)
 
-entry-alone : (v : Venue) (e : Entry) (k : ℕ) → T (sound v) → executionsIn (effectOfEntry (v .market) v k e .reports) ≡ executionsAlone (orderOf (v .market) (v .lastStamp + 1) k e) (v .orders)
+entry-without-own : (v : Venue) (e : Entry) (k : ℕ) → T (sound v) → executionsIn (effectOfEntry (v .market) v k e .reports) ≡ executionsWithoutOwn (orderOf (v .market) (v .lastStamp + 1) k e) (v .orders)
 unfolding effectOfEntry entering
-entry-alone v e k s =
+entry-without-own v e k s =
     let b = sound-venue v s .book in
-    work-alone (orderOf (v .market) (v .lastStamp + 1) k e) (v .orders) (rises-idsRise 0 (v .orders) (b .rises)) (differ-stampsDiffer (v .orders) (b .stamps))
+    work-without-own (orderOf (v .market) (v .lastStamp + 1) k e) (v .orders) (rises-idsRise 0 (v .orders) (b .rises)) (differ-stampsDiffer (v .orders) (b .stamps))
 
-pub trades-as-if-alone-of-entries : TradesAsIfAlone
+pub repriced-trade-as-without-own : RepricedTradeAsWithoutOwn
+unfolding afterMove
+repriced-trade-as-without-own o os s p used r d =
+    let l : List Order = without (o .id) os in
+    work-without-own (atNewPrice p (s + 1) used o) l (rises-idsRise 0 l (rises-without 0 (o .id) os (idsRise-rises 0 os r))) (differ-stampsDiffer l (without-differ stampOf (o .id) os (stampsDiffer-differ os d)))
+
+pub entries-trade-as-without-own : EntriesTradeAsWithoutOwn
 unfolding step stepUnless effectOf
-trades-as-if-alone-of-entries v e k n rs q = go (refusal v (ownedEntry e k) n) (refusal-known v (ownedEntry e k) n) q
+entries-trade-as-without-own v e k n rs q = go (refusal v (ownedEntry e k) n) (refusal-known v (ownedEntry e k) n) q
   where
-    go : (x : Option ℕ) → Unless x (NotRefused v (ownedEntry e k) n) → stepUnless x v (ownedEntry e k) .answer ≡ gives rs → executionsIn rs ≡ executionsAlone (orderOf (v .market) (v .lastStamp + 1) k e) (v .orders)
+    go : (x : Option ℕ) → Unless x (NotRefused v (ownedEntry e k) n) → stepUnless x v (ownedEntry e k) .answer ≡ gives rs → executionsIn rs ≡ executionsWithoutOwn (orderOf (v .market) (v .lastStamp + 1) k e) (v .orders)
     go (some i) u z = let y : _≡_ {A = ℕ} 0 1 = cc in absurd (omega arith)
     go none u z =
         let y : effectOfEntry (v .market) v k e .reports ≡ rs = cc in
-        subst (λ (l : List Report). executionsIn l ≡ executionsAlone (orderOf (v .market) (v .lastStamp + 1) k e) (v .orders)) y (entry-alone v e k (u .sound))
+        subst (λ (l : List Report). executionsIn l ≡ executionsWithoutOwn (orderOf (v .market) (v .lastStamp + 1) k e) (v .orders)) y (entry-without-own v e k (u .sound))
 
-pub trades-as-if-alone-in-calls : TradesAsIfAloneInCalls
+pub entries-trade-as-without-own-in-calls : EntriesTradeAsWithoutOwnInCalls
 unfolding venueOf
-trades-as-if-alone-in-calls w e k i b count w′ b′ a = go (stepIn w (ownedEntry e k) (length b) .answer) refl (a .answers) (a .buffer)
+entries-trade-as-without-own-in-calls w e k i b count w′ b′ a = go (stepIn w (ownedEntry e k) (length b) .answer) refl (a .answers) (a .buffer)
   where
-    go : (x : Outcome (List Report)) → stepIn w (ownedEntry e k) (length b) .answer ≡ x → gives count ≡ countOf x → b′ ≡ bufferAfter b x → AloneInBytes w e k b′ count
+    go : (x : Outcome (List Report)) → stepIn w (ownedEntry e k) (length b) .answer ≡ x → gives count ≡ countOf x → b′ ≡ bufferAfter b x → WithoutOwnInBytes w e k b′ count
     go (refuses n) s c f = let y : _≡_ {A = ℕ} 0 1 = cc in absurd (omega arith)
     go (gives rs) s c f =
         let v : Venue = venueOf w in
@@ -439,5 +452,5 @@ trades-as-if-alone-in-calls w e k i b count w′ b′ a = go (stepIn w (ownedEnt
         record {
           read = rs;
           readable = rw (f, l) (bytes-read b rs (subst (Readable (length b)) z (step-readable v (ownedEntry e k) (length b) i)));
-          alone = trades-as-if-alone-of-entries v e k (length b) rs z;
+          is = entries-trade-as-without-own v e k (length b) rs z;
         }

@@ -2,6 +2,7 @@
 -- account names the venue. Assumes nothing.
 use Prim.Native.Nat.{ℕ, _+_, _<_}
 use mathlib.Core.Path.{_≡_}
+use mathlib.Core.Bool.{Bool}
 use mathlib.Core.List.{List, [], _∷_, _++_, map, foldl}
 use mathlib.Core.Option.{Option, none, some}
 use lib.Dec.{T, eqb}
@@ -12,6 +13,7 @@ use Rattle.prices.specs.Prices.{isStep, legal}
 use Rattle.book.specs.declared.Order.{Order}
 use Rattle.book.specs.rules.Orders.{find, without}
 use Rattle.book.specs.rules.Matching.{Execution, Matched}
+use Rattle.book.specs.rules.Sound.{idsRise, stampsDiffer}
 use Rattle.book.specs.rules.Words.{resting, isBook}
 use Rattle.book.specs.claims.OnlyTrading.{onlyTrading}
 use Rattle.book.specs.claims.OwnOrders.{others, executionsOf}
@@ -49,7 +51,8 @@ pub record Withdrawal : Type 0 where
   pub workingOwner : ℕ
   pub withdrawnOwner : ℕ
 
--- owner is a column as those of the tallies: at k the owner that the accepted entry with id k named, 0 where there is none. working is the id of the working order;
+-- owner is a column as those of the tallies: at k the owner that the accepted entry with id k named, 0 where there is none. working is the id of the working order,
+-- 0 where no order of the event has worked yet;
 -- trades and withdrawals have the last one first
 pub record Owners : Type 0 where
   pub owner : ℕ → ℕ
@@ -61,13 +64,17 @@ abbrev pub noOwners : Owners
 noOwners = record { owner = λ k. 0; working = 0; trades = []; withdrawals = [] }
 
 -- "Event kind 6 is an entry with an owner .. kind 1 has owner 0"
+abbrev pub namedBy : Event → (ℕ → ℕ) → ℕ → ℕ
+namedBy (entry e) f = setAt (e .id) 0 f
+namedBy (cancel i) f = f
+namedBy (bid b) f = f
+namedBy (tape p) f = f
+namedBy (dayEnd x) f = f
+namedBy (ownedEntry e k) f = setAt (e .id) k f
+
+-- an accepted event begins: no order works yet
 abbrev pub ownersAfter : Event → Owners → Owners
-ownersAfter (entry e) c = record { owner = setAt (e .id) 0 (c .owner); working = c.working; trades = c.trades; withdrawals = c.withdrawals }
-ownersAfter (cancel i) c = c
-ownersAfter (bid b) c = c
-ownersAfter (tape p) c = c
-ownersAfter (dayEnd x) c = c
-ownersAfter (ownedEntry e k) c = record { owner = setAt (e .id) k (c .owner); working = c.working; trades = c.trades; withdrawals = c.withdrawals }
+ownersAfter e c = record { owner = namedBy e (c .owner); working = 0; trades = c.trades; withdrawals = c.withdrawals }
 
 -- "Report 1 or 4 .. that order is now the working one"
 abbrev pub worksNow : ℕ → Owners → Owners
@@ -114,14 +121,14 @@ abbrev pub Apart : Sides → Type 0
 Apart t = 0 < t.buyer → t.buyer ≡ t.seller → ⊥
 
 -- of two orders of the same owner above 0, "the resting one is cancelled": not the one that works
-abbrev pub RestingOfSameFirm : Withdrawal → Type 0
-RestingOfSameFirm t = (t.withdrawn ≡ t.working → ⊥) × (0 < t.workingOwner) × (t.workingOwner ≡ t.withdrawnOwner)
+abbrev pub OtherOrderOfFirm : Withdrawal → Type 0
+OtherOrderOfFirm t = (t.withdrawn ≡ t.working → ⊥) × (0 < t.workingOwner) × (t.workingOwner ≡ t.withdrawnOwner)
 
--- no firm trades with itself, and cause 5 meets none but resting orders of the working order's own firm. Ids that were never entered have owner 0 here; that
--- there are none in reports 2 and 3 is demand 3's, whose shares entered would not add up
+-- no firm trades with itself, and cause 5 meets none but other orders of the working order's own firm. An id that was never entered has owner 0 here; that no
+-- report 2 or 3 with shares has one is demand 3's, whose shares entered would not add up
 pub record FirmsApart (c : Owners) : Type 0 where
   pub trades : All Apart (c .trades)
-  pub withdrawals : All RestingOfSameFirm (c .withdrawals)
+  pub withdrawals : All OtherOrderOfFirm (c .withdrawals)
 
 -- for every step and close that open takes and every list of events, each lent a report buffer of any length
 abbrev pub NoFirmTradesWithItself : Type 0
@@ -201,7 +208,7 @@ unownedUnless none v e =
     let x : Effect = unownedEffect (marketAfter e (v .market)) v e in
     record { answer = gives (x .reports); venue = venueAfter v e x }
 
--- it is refused as now; what kind 1 is refused for is pinned by No. 3's claim (`kindBefore`)
+-- it is refused as now; that kind 1 has no refusal for an owner is No. 3's claim too (`kindBefore`)
 abbrev pub unownedStep : Venue → Event → ℕ → Step
 unownedStep v e n = unownedUnless (refusal v e n) v e
 
@@ -244,7 +251,7 @@ UnownedCallsAsBefore =
     (w : List ℕ) (e : Event) (b : List ℕ) (answer : Outcome ℕ) (w′ b′ : List ℕ) → Applied w e b answer w′ b′ →
     All Unowned (resting w) → NamesNoOwner e → UnownedCallAsBefore w e b answer w′ b′
 
--- As if its own orders weren't there
+-- As without its owner's orders
 
 -- the executions among reports
 abbrev pub executionsIn : List Report → List Execution
@@ -257,22 +264,28 @@ executionsIn (restrictionStarts ∷ rs) = executionsIn rs
 executionsIn (dayEnded p ∷ rs) = executionsIn rs
 
 -- those of an order that works and only trades, in a book without the orders of its owner
-abbrev pub executionsAlone : Order → List Order → List Execution
-executionsAlone w os = executionsOf (onlyTrading w (others w os) .happenings)
+abbrev pub executionsWithoutOwn : Order → List Order → List Execution
+executionsWithoutOwn w os = executionsOf (onlyTrading w (others w os) .happenings)
 
 -- what an accepted entry of kind 6 executes with others, and in which order, is what it would execute if its owner's orders weren't there
-abbrev pub TradesAsIfAlone : Type 0
-TradesAsIfAlone =
+abbrev pub EntriesTradeAsWithoutOwn : Type 0
+EntriesTradeAsWithoutOwn =
     (v : Venue) (e : Entry) (k n : ℕ) (rs : List Report) → step v (ownedEntry e k) n .answer ≡ gives rs →
-    executionsIn rs ≡ executionsAlone (orderOf (v .market) (v .lastStamp + 1) k e) (v .orders)
+    executionsIn rs ≡ executionsWithoutOwn (orderOf (v .market) (v .lastStamp + 1) k e) (v .orders)
+
+-- an order that is re-priced does so too, in every book whose ids rise and whose stamps differ
+abbrev pub RepricedTradeAsWithoutOwn : Type 0
+RepricedTradeAsWithoutOwn =
+    (o : Order) (os : List Order) (s p : ℕ) (used : Bool) → T (idsRise 0 os) → T (stampsDiffer os) →
+    executionsIn (afterMove (Reprice p used) o os s .reports) ≡ executionsWithoutOwn (atNewPrice p (s + 1) used o) (without (o .id) os)
 
 -- the same of calls, by the report bytes: of an entry with a 32-bit id that apply accepts on any words
-pub record AloneInBytes (w : List ℕ) (e : Entry) (k : ℕ) (after : List ℕ) (count : ℕ) : Type 0 where
+pub record WithoutOwnInBytes (w : List ℕ) (e : Entry) (k : ℕ) (after : List ℕ) (count : ℕ) : Type 0 where
   pub read : List Report
   pub readable : reportsUpTo after count ≡ some read
-  pub alone : executionsIn read ≡ executionsAlone (orderOf (venueOf w .market) (venueOf w .lastStamp + 1) k e) (resting w)
+  pub is : executionsIn read ≡ executionsWithoutOwn (orderOf (venueOf w .market) (venueOf w .lastStamp + 1) k e) (resting w)
 
-abbrev pub TradesAsIfAloneInCalls : Type 0
-TradesAsIfAloneInCalls =
+abbrev pub EntriesTradeAsWithoutOwnInCalls : Type 0
+EntriesTradeAsWithoutOwnInCalls =
     (w : List ℕ) (e : Entry) (k : ℕ) → Word (e .id) → (b : List ℕ) (count : ℕ) (w′ b′ : List ℕ) → Applied w (ownedEntry e k) b (gives count) w′ b′ →
-    AloneInBytes w e k b′ count
+    WithoutOwnInBytes w e k b′ count

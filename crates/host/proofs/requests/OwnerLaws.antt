@@ -8,12 +8,12 @@ use Rattle.numbers.specs.Answers.{Outcome}
 use Rattle.engine.specs.declared.Event.the-variants.{OwnedEntry as ownedEntry}
 use Rattle.engine.specs.claims.Calls.{Applied}
 use Rattle.engine.proofs.bytes.RecordLaws.{record-unique}
-use Rattle.engine.proofs.requests.OwnerLaws.{apart-from, unowned-calls-as-before, trades-as-if-alone-in-calls}
+use Rattle.engine.proofs.requests.OwnerLaws.{apart-from, unowned-calls-as-before, entries-trade-as-without-own-in-calls}
 use Rattle.host.specs.rules.Host.{outcomeOf}
 use Rattle.host.specs.claims.Calls.{EventApplied}
 use Rattle.host.specs.claims.HostCalls.{eventCalls, appliedCall}
 use Rattle.host.specs.claims.HostDays.{oneByOne}
-use Rattle.host.specs.claims.HostOwners.{NoFirmTradesWithItselfForHosts, UnownedCallsAsBeforeForHosts, TradesAsIfAloneForHosts}
+use Rattle.host.specs.claims.HostOwners.{NoFirmTradesWithItselfForHosts, UnownedCallsAsBeforeForHosts, EntriesTradeAsWithoutOwnForHosts}
 use Rattle.host.proofs.refinement.HostLaws.{opened-fresh}
 use Rattle.host.proofs.demand3.HostCallLaws.{events-of-calls}
 use Rattle.host.proofs.demand3.HostDayLaws.{days-one-by-one}
@@ -28,9 +28,9 @@ unowned-calls-as-before-for-hosts w bytes b answer w′ b′ a r e u o =
     let x : EventApplied w (r .value) b answer w′ b′ = rw e at a in
     unowned-calls-as-before w (r .value) b (outcomeOf answer) w′ b′ (x .applied) u o
 
-pub trades-as-if-alone-for-hosts : TradesAsIfAloneForHosts
+pub entries-trade-as-without-own-for-hosts : EntriesTradeAsWithoutOwnForHosts
 unfolding outcomeOf pick
-trades-as-if-alone-for-hosts w bytes b answer w′ b′ t a l e k end r =
+entries-trade-as-without-own-for-hosts w bytes b answer w′ b′ t a l e k end r =
     let x : EventApplied w (ownedEntry e k) b answer w′ b′ = rw r at a in
     let i = record-unique bytes 0 _ t r .words in
-    trades-as-if-alone-in-calls w e k (i .1 .0) b answer w′ b′ (subst (λ (o : Outcome ℕ). Applied w (ownedEntry e k) b o w′ b′) (rw (lt-ltb answer 65_536 l)) (x .applied))
+    entries-trade-as-without-own-in-calls w e k (i .1 .0) b answer w′ b′ (subst (λ (o : Outcome ℕ). Applied w (ownedEntry e k) b o w′ b′) (rw (lt-ltb answer 65_536 l)) (x .applied))

@@ -10,7 +10,7 @@ use Rattle.engine.specs.declared.Entry.{Entry}
 use Rattle.engine.specs.declared.Event.{Event}
 use Rattle.engine.specs.declared.Event.the-variants.{OwnedEntry as ownedEntry}
 use Rattle.engine.specs.rules.Records.{recordAt}
-use Rattle.engine.specs.claims.Owners.{FirmsApartInCalls, Unowned, NamesNoOwner, UnownedCallAsBefore, AloneInBytes}
+use Rattle.engine.specs.claims.Owners.{FirmsApartInCalls, Unowned, NamesNoOwner, UnownedCallAsBefore, WithoutOwnInBytes}
 use Rattle.host.specs.rules.Host.{outcomeOf}
 use Rattle.host.specs.claims.Calls.{HostOpened, HostApplied}
 use Rattle.host.specs.claims.HostCalls.{eventCalls, appliedCall}
@@ -31,7 +31,7 @@ UnownedCallsAsBeforeForHosts =
     (r : Read Event) → recordAt bytes 0 ≡ gives r → All Unowned (resting w) → NamesNoOwner (r .value) → UnownedCallAsBefore w (r .value) b (outcomeOf answer) w′ b′
 
 -- a call of venue_apply that accepts an entry of kind 6: by its report bytes it executes with others what it would if its owner's orders weren't there
-abbrev pub TradesAsIfAloneForHosts : Type 0
-TradesAsIfAloneForHosts =
+abbrev pub EntriesTradeAsWithoutOwnForHosts : Type 0
+EntriesTradeAsWithoutOwnForHosts =
     (w bytes b : List ℕ) (answer : ℕ) (w′ b′ : List ℕ) → All IsByte bytes → HostApplied w bytes b answer w′ b′ → answer < 65_536 →
-    (e : Entry) (k end : ℕ) → recordAt bytes 0 ≡ gives (record { value = ownedEntry e k; end = end }) → AloneInBytes w e k b′ answer
+    (e : Entry) (k end : ℕ) → recordAt bytes 0 ≡ gives (record { value = ownedEntry e k; end = end }) → WithoutOwnInBytes w e k b′ answer

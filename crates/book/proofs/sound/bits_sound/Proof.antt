@@ -1,4 +1,4 @@
--- `bits_sound`: six words of one bit, the upper half of the owner among them. Assumes nothing.
+-- `bits_sound`: six numbers of one bit, the owner divided by 32,768 among them. Assumes nothing.
 use Prim.Native.Nat.{ℕ}
 use mathlib.Core.Path.{_≡_, _∙_}
 use mathlib.Core.Bool.{true, _&&_}
