@@ -13,15 +13,15 @@ use Rattle.numbers.specs.Tests.{pick, All}
 use Rattle.numbers.proofs.TestLaws.{by-test, pick-yes, T-false, all-map, all-both}
 use Rattle.book.specs.declared.Order.{Order}
 use Rattle.book.specs.rules.Orders.{reduced, without, insert}
-use Rattle.book.specs.rules.Matching.{reaches, better, counterparty, Execution, execution, afterTrade, Happening, Meeting, trading, withdrawing, sameOwner, meeting, Matched, matchingWith, matchingUpTo, matching}
+use Rattle.book.specs.rules.Matching.{reaches, better, counterparty, Execution, execution, afterTrade, Happening, traded, withdrawn, Meeting, trading, withdrawing, sameOwner, meeting, Matched, matchingWith, matchingUpTo, matching}
 use Rattle.book.specs.claims.OnlyTrading.{tradingWith, tradingUpTo, onlyTrading}
-use Rattle.book.specs.claims.OwnOrders.{others, executionsOf, WithdrawsOwn, TradesAsWithoutOwn}
-use Rattle.book.proofs.definitions.OrderLaws.{idOf, stampOf, Other, Differ, Distinct, all-taken, insert-taken, without-none, without-all, without-differ, all-members, same-id}
+use Rattle.book.specs.claims.OwnOrders.{others, executionsOf, OwnOrder, WithdrawsOwn, TradesAsWithoutOwn}
+use Rattle.book.proofs.definitions.OrderLaws.{idOf, stampOf, Other, Differ, Distinct, all-taken, insert-taken, without-none, without-all, without-differ, without-other, all-members, same-id}
 use Rattle.book.proofs.definitions.RisingLaws.{Rises, idsRise-rises, rises-all, rises-distinct, rises-without, rises-afterTrade}
 use Rattle.book.proofs.definitions.CounterpartyLaws.{Unreached, Reached, counterparty-reached}
 use Rattle.book.proofs.definitions.PriorityLaws.{better-total, counterparty-best}
 use Rattle.book.proofs.definitions.MeetingLaws.{meeting-by-owner}
-use Rattle.book.proofs.definitions.MatchingLaws.{afterTrade-differ, Within, trading-within, withdrawing-within, matching-keeps, unmatched, onceMore, none-within}
+use Rattle.book.proofs.definitions.MatchingLaws.{afterTrade-all, afterTrade-differ, Within, trading-within, withdrawing-within, matching-keeps, matching-ends, unmatched, onceMore, none-within}
 use Rattle.book.proofs.refinement.SoundBookLaws.{stampsDiffer-differ}
 
 -- what holds of all orders of a list holds of one of them
@@ -241,8 +241,11 @@ module _ (w : Order) (os : List Order) where
   abbrev AsItWas : Order → Type 0
   AsItWas o = T (sameOwner w o) → List·Memᴰ o os
 
-  abbrev Kept : Order → List Order → List Happening → Type 0
-  Kept x l hs = (x.owner ≡ w.owner) × Distinct l × All AsItWas l × All (WithdrawsOwn w os) hs
+  record Kept (x : Order) (l : List Order) (hs : List Happening) : Type 0 where
+    owner : x.owner ≡ w.owner
+    distinct : Distinct l
+    own : All AsItWas l
+    withdrawals : All (WithdrawsOwn w os l) hs
 
   own-trade : (o : Order) (q : ℕ) (l : List Order) → T (not (sameOwner w o)) → All AsItWas l → All AsItWas (afterTrade o q l)
   unfolding afterTrade sameOwner
@@ -250,25 +253,48 @@ module _ (w : Order) (os : List Order) where
       let r = without-all AsItWas (o .id) l h in
       by-test (All AsItWas) _ (λ t. r) (λ t. all-taken AsItWas (insert-taken (reduced q o) (without (o .id) l)) (λ u. absurd (T-not (sameOwner w o) n u)) r)
 
+  -- what is gone stays gone in a book with none but ids of the one before
+  still-gone : (l k : List Order) → ((i : ℕ) → All (Other i) l → All (Other i) k) → (hs : List Happening) → All (WithdrawsOwn w os l) hs → All (WithdrawsOwn w os k) hs
+  still-gone l k f [] h = tt
+  still-gone l k f (traded x ∷ hs) h = (tt, still-gone l k f hs (h .1))
+  still-gone l k f (withdrawn i q ∷ hs) h = ((h .0 .0, f i (h .0 .1)), still-gone l k f hs (h .1))
+
   withdraws-own : (x o : Order) (l : List Order) (hs : List Happening) → Reached x l (some o) → Kept x l hs → let z : Meeting = meeting x o l in Kept (z .left) (z .orders) (z.happening ∷ hs)
   unfolding trading withdrawing
-  withdraws-own x o l hs r i =
-      meeting-by-owner
-      (λ (z : Meeting). Kept (z .left) (z .orders) (z.happening ∷ hs))
-      x
-      o
-      l
-      (λ t. let u : T (sameOwner w o) = subst T (same-firm w x o (i .0)) t in (i .0, without-differ idOf (o .id) l (i .1), without-all AsItWas (o .id) l (i .2), (record { order = o; rests = all-at AsItWas (r .0) (i .2) u; own = u; id = refl; shares = refl }, i .3)))
-      (λ t. let q : ℕ = min (x .shares) (o .shares) in (i .0, afterTrade-differ q (r .0) (i .1) idOf refl (i .1), own-trade o q l (subst (λ (b : Bool). T (not b)) (same-firm w x o (i .0)) t) (i .2), (tt, i .3)))
+  withdraws-own x o l hs r i = meeting-by-owner (λ (z : Meeting). Kept (z .left) (z .orders) (z.happening ∷ hs)) x o l own other
+    where
+      own : T (sameOwner x o) → Kept ((withdrawing x o l) .left) ((withdrawing x o l) .orders) ((withdrawing x o l) .happening ∷ hs)
+      own t =
+          let u : T (sameOwner w o) = subst T (same-firm w x o (i .owner)) t in
+          let was : OwnOrder w os (o .id) (o .shares) = record { order = o; rests = all-at AsItWas (r .0) (i .own) u; own = u; id = refl; shares = refl } in
+          record {
+            owner = i .owner;
+            distinct = without-differ idOf (o .id) l (i .distinct);
+            own = without-all AsItWas (o .id) l (i .own);
+            withdrawals = ((was, without-other (o .id) l), still-gone l (without (o .id) l) (λ k h. without-all (Other k) (o .id) l h) hs (i .withdrawals));
+          }
 
-  all-own : Distinct os → All (WithdrawsOwn w os) (matching w os .happenings)
+      other : T (not (sameOwner x o)) → Kept ((trading x o l) .left) ((trading x o l) .orders) ((trading x o l) .happening ∷ hs)
+      other t =
+          let q : ℕ = min (x .shares) (o .shares) in
+          record {
+            owner = i .owner;
+            distinct = afterTrade-differ q (r .0) (i .distinct) idOf refl (i .distinct);
+            own = own-trade o q l (subst (λ (b : Bool). T (not b)) (same-firm w x o (i .owner)) t) (i .own);
+            withdrawals = (tt, still-gone l (afterTrade o q l) (λ k h. afterTrade-all q (r .0) (i .distinct) (Other k) (λ z n j f. f) h) hs (i .withdrawals));
+          }
+
+  all-own : Distinct os → All (WithdrawsOwn w os (matching w os .orders)) (matching w os .happenings) × All AsItWas (matching w os .orders)
   all-own d =
-      let k = matching-keeps (λ (l : List Happening) (x : Happening). x ∷ l) Kept withdraws-own w os [] (refl, d, all-map (λ o m t. m) os (all-members os), tt) in
-      consed-all (WithdrawsOwn w os) [] (matching w os .happenings) (k .3) .1
+      let start : Kept w os [] = record { owner = refl; distinct = d; own = all-map (λ o m t. m) os (all-members os); withdrawals = tt } in
+      let k = matching-keeps (λ (l : List Happening) (x : Happening). x ∷ l) Kept withdraws-own w os [] start in
+      (consed-all (WithdrawsOwn w os (matching w os .orders)) [] (matching w os .happenings) (k .withdrawals) .1, k .own)
 
 pub trades-as-without-own : TradesAsWithoutOwn
 unfolding matching onlyTrading
 trades-as-without-own w os i j =
     let r = idsRise-rises 0 os i in
+    let d = rises-distinct 0 os r in
     let s = same-upTo (length os) (length (others w os)) w os r (stampsDiffer-differ os j) (inr (omega arith)) (inr (omega arith)) in
-    record { executions = s .executions; left = s .left; orders = s .orders; withdrawals = all-own w os (rises-distinct 0 os r) }
+    let k = all-own w os d in
+    record { executions = s .executions; left = s .left; orders = s .orders; withdrawals = k .0; kept = k .1; ends = matching-ends w os d }

@@ -2,11 +2,13 @@
 -- nothing.
 use Prim.Native.Nat.{ℕ}
 use mathlib.Core.Path.{_≡_}
+use mathlib.Core.Bool.{not}
+use mathlib.Core.Logic.{_⊎_}
 use mathlib.Core.List.{List, [], _∷_, List·Memᴰ}
 use lib.Dec.{T}
 use Rattle.numbers.specs.Tests.{pick, All}
 use Rattle.book.specs.declared.Order.{Order}
-use Rattle.book.specs.rules.Matching.{Execution, Happening, traded, withdrawn, sameOwner, matching}
+use Rattle.book.specs.rules.Matching.{reaches, Execution, Happening, traded, withdrawn, sameOwner, matching}
 use Rattle.book.specs.rules.Sound.{idsRise, stampsDiffer}
 use Rattle.book.specs.claims.OnlyTrading.{onlyTrading}
 
@@ -29,17 +31,20 @@ pub record OwnOrder (w : Order) (os : List Order) (i q : ℕ) : Type 0 where
   pub id : order.id ≡ i
   pub shares : order.shares ≡ q
 
-abbrev pub WithdrawsOwn : Order → List Order → Happening → Type 0
-WithdrawsOwn w os (traded x) = Unit {0}
-WithdrawsOwn w os (withdrawn i q) = OwnOrder w os i q
+-- what is withdrawn was one, and rests no longer in the book l
+abbrev pub WithdrawsOwn : Order → List Order → List Order → Happening → Type 0
+WithdrawsOwn w os l (traded x) = Unit {0}
+WithdrawsOwn w os l (withdrawn i q) = OwnOrder w os i q × All (λ (o : Order). o.id ≡ i → ⊥) l
 
 -- the executions, what is left of the working order and what is left of others' orders are those of a book without its owner's; what is withdrawn
--- are resting orders of its owner, with all their shares
+-- are resting orders of its owner, with all their shares, and they are gone; those of its owner that still rest are as they were; and nobody that is reached is left while shares are
 pub record AsWithoutOwn (w : Order) (os : List Order) : Type 0 where
   pub executions : executionsOf (matching w os .happenings) ≡ executionsOf (onlyTrading w (others w os) .happenings)
   pub left : matching w os .left ≡ onlyTrading w (others w os) .left
   pub orders : others w (matching w os .orders) ≡ onlyTrading w (others w os) .orders
-  pub withdrawals : All (WithdrawsOwn w os) (matching w os .happenings)
+  pub withdrawals : All (WithdrawsOwn w os (matching w os .orders)) (matching w os .happenings)
+  pub kept : All (λ (o : Order). T (sameOwner w o) → List·Memᴰ o os) (matching w os .orders)
+  pub ends : (matching w os .left .shares ≡ 0) ⊎ All (λ (o : Order). T (not (reaches (matching w os .left) o))) (matching w os .orders)
 
 -- of every book as a sound venue record has it
 abbrev pub TradesAsWithoutOwn : Type 0
