@@ -8,6 +8,8 @@ pub mod Examples
 pub mod Calls
 pub mod MarketOrders
 pub mod HalfCents
+pub mod OtherRefusals
 pub mod WhichCode
 pub mod Fill
 pub mod FallingAgain
+pub mod FullBook

@@ -3,6 +3,7 @@ use crate::Entry;
 use crate::MayRefuse;
 use crate::Refusal;
 use crate::header;
+use crate::working;
 use book::sound;
 use book::words;
 use prices::increments;
@@ -10,15 +11,15 @@ ghost use mathlib.Core.Path.{_≡_};
 ghost use Prim.Native.Nat.{_≤_};
 ghost use mathlib.Core.Bool.{_||_};
 ghost use mathlib.Core.Option.{none};
-ghost use lib.Dec.{eqb};
+ghost use lib.Dec.{ltb, eqb};
 ghost use lib.ListN.{length};
 ghost use Rattle.numbers.specs.Tests.{conj};
 ghost use Rattle.prices.specs.Prices.{legal, isBid};
 ghost use Rattle.book.specs.rules.Words.{venueWords};
 ghost use Rattle.book.specs.steps.BookSteps.{Book};
 ghost use Rattle.engine.specs.rules.Working.{isMarket};
-ghost use Rattle.engine.specs.rules.Sound.{headerConditions};
-ghost use Rattle.engine.specs.rules.Refusals.{refusalOfTerms, refusalOfMark, refusalOfOtherCodes, refusalOfCodes, refusalOfOwner, refusalOfAsked, refusalOfPlace, refusalOfEntry};
+ghost use Rattle.engine.specs.rules.Sound.{mostOrders, headerConditions};
+ghost use Rattle.engine.specs.rules.Refusals.{refusalOfTerms, refusalOfMark, refusalOfOtherCodes, refusalOfCodes, refusalOfOwner, refusalOfAsked, needsNoPlace, refusalOfPlace, refusalOfEntry};
 ghost use Rattle.engine.specs.rules.Layout.{venueOf, soundWords};
 ghost use Rattle.engine.specs.rules.Answers.{refusedWith};
 ghost use Rattle.engine.specs.steps.Memory.{HasStep};
@@ -131,15 +132,26 @@ pub(crate) fn owner_refusal(owner: u32) -> MayRefuse
     MayRefuse::Allow
 }
 
-// The place of an entry: its id, and room in the book.
-fn place_refusal(w: &[u32], id: u32) -> MayRefuse
+// Whether the book has a place for an entry, or it needs none: it is immediate or cancel, or a market order taken as one.
+fn has_place(w: &[u32], e: Entry) -> bool
     requires { ⌜ Book (now w) ⌝ }
-    ensures { λ r. ⌜ refusedWith r ≡ refusalOfPlace (venueOf (now (w .entry))) id ⌝ }
+    ensures { λ r. ⌜ r ≡ (ltb (length (venueOf (now (w .entry)) .orders)) mostOrders || needsNoPlace (venueOf (now (w .entry)) .market) e) ⌝ }
 {
-    if id <= words::header_word(w, header::LAST_ID) {
+    if words::count(w) < words::PLACES {
+        return true;
+    }
+    working::life_of(header::market(w), e.mark, e.price, e.life) == 1
+}
+
+// The place of an entry: its id, and room in the book.
+fn place_refusal(w: &[u32], e: Entry) -> MayRefuse
+    requires { ⌜ Book (now w) ⌝ }
+    ensures { λ r. ⌜ refusedWith r ≡ refusalOfPlace (venueOf (now (w .entry))) e ⌝ }
+{
+    if e.id <= words::header_word(w, header::LAST_ID) {
         return MayRefuse::Refuse(Refusal::IdNotNew);
     }
-    if words::count(w) >= words::PLACES {
+    if !has_place(w, e) {
         return MayRefuse::Refuse(Refusal::BookFull);
     }
     MayRefuse::Allow
@@ -167,7 +179,7 @@ pub(crate) fn entry_refusal(w: &[u32], e: Entry, of_owner: MayRefuse) -> MayRefu
             MayRefuse::Refuse(refusal) => MayRefuse::Refuse(refusal),
             MayRefuse::Allow => match of_owner {
                 MayRefuse::Refuse(refusal) => MayRefuse::Refuse(refusal),
-                MayRefuse::Allow => place_refusal(w, e.id),
+                MayRefuse::Allow => place_refusal(w, e),
             },
         },
     }

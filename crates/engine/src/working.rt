@@ -100,7 +100,7 @@ fn follows_bid(m: Market, mark: u32, price: u32) -> bool
 }
 
 // What counts as the life of an entry.
-fn life_of(m: Market, mark: u32, price: u32, life: u32) -> u32
+pub(crate) fn life_of(m: Market, mark: u32, price: u32, life: u32) -> u32
     ensures { λ r. ⌜ r ≡ lifeOf m mark price life ⌝ }
 {
     if price == 0 {

@@ -92,9 +92,9 @@ unfolding refusalOfCodes
 codes-not e =
     refuseUnless-other _ 18 _ tt (refuseUnless-other _ 5 _ tt (refuseUnless-other _ 5 _ tt (refuseUnless-other _ 19 _ tt (refuseUnless-other _ 20 none tt tt))))
 
-place-not : (v : Venue) (id : ℕ) → Refused (refusalOfPlace v id)
+place-not : (v : Venue) (e : Entry) → Refused (refusalOfPlace v e)
 unfolding refusalOfPlace
-place-not v id = refuseUnless-other _ 6 _ tt (refuseUnless-other _ 7 none tt tt)
+place-not v e = refuseUnless-other _ 6 _ tt (refuseUnless-other _ 7 none tt tt)
 
 owner-not : (k : ℕ) → Refused (refusalOfOwner k)
 unfolding refusalOfOwner
@@ -103,7 +103,7 @@ owner-not k = refuseUnless-other _ 21 _ tt (refuseUnless-other _ 21 none tt tt)
 refusalOfEntry-not : (v : Venue) (e : Entry) (ofOwner : Option ℕ) → Refused ofOwner → Refused (refusalOfEntry v e ofOwner)
 unfolding refusalOfEntry
 refusalOfEntry-not v e ofOwner h =
-    firstOf-not _ _ (terms-not (v.market.step) (e .price) (e .shares)) (firstOf-not _ _ (codes-not e) (firstOf-not _ _ h (place-not v (e .id))))
+    firstOf-not _ _ (terms-not (v.market.step) (e .price) (e .shares)) (firstOf-not _ _ (codes-not e) (firstOf-not _ _ h (place-not v e)))
 
 refusalOfKind-not : (v : Venue) (e : Event) → Refused (refusalOfKind v e)
 unfolding refusalOfKind

@@ -1,7 +1,7 @@
 -- The conditions of a venue record as facts, and that no event breaks those of the book and the market. Assumes nothing.
 use Prim.Native.Nat.{ℕ, _+_, _*_, _≤_, _<_, min}
 use native.Mathlib.Omega.{arith}
-use mathlib.Core.Path.{_≡_, refl}
+use mathlib.Core.Path.{_≡_, refl, sym, subst}
 use mathlib.Core.Bool.{Bool, true}
 use mathlib.Core.Option.{Option, none, some}
 use mathlib.Core.List.{List, [], _∷_, map, List·Memᴰ}
@@ -34,8 +34,9 @@ use Rattle.engine.specs.rules.Working.{isMarket, limitOf, followsBid, li
 use Rattle.engine.specs.rules.Pass.{moveDown, slideOnce, slideDown, moveOf, atNewPrice, Effect, afterMove, passOne, passOver}
 use Rattle.engine.specs.rules.Venue.{Venue, thePass, entering, effectOfEntry, effectOfCancel, effectOfDayEnd, effectOf, lastIdAfter}
 use Rattle.engine.specs.rules.Sound.{mostOrders, mostEvents, venueConditions, sound}
+use Rattle.engine.specs.steps.Steps.{HasPlace}
 use Rattle.book.proofs.definitions.OrderConditionLaws.{FieldsSound, MayWork, MayRest, market-allowed, mayWork-reduced, mayRest-later, order-mayRest, mayRest-order}
-use Rattle.engine.proofs.refinement.RefusalLaws.{EntryAllowed, Allowed}
+use Rattle.engine.proofs.refinement.RefusalLaws.{EntryAllowed, Allowed, place-kept}
 use Rattle.engine.proofs.demand3.MarketLaws.{restricted-mark, HasPermitted}
 
 -- the book; g is the step, n the last id and s the last stamp
@@ -46,10 +47,10 @@ pub record SoundBook (g n s : ℕ) (os : List Order) : Type 0 where
   pub orders : All (MayRest g n s) os
   pub stamps : Differ stampOf os
 
--- an order works, and the book has room for it
+-- an order works, and has a place in the book
 pub record SoundWork (g n s : ℕ) (w : Order) (os : List Order) : Type 0 where
   pub book : SoundBook g n s os
-  pub room : length os < mostOrders
+  pub place : HasPlace (w .life) (length os)
   pub works : MayWork g n s w
   pub newStamp : All (λ (x : Order). x.stamp ≡ w.stamp → ⊥) os
   pub newId : All (Other (w .id)) os
@@ -105,12 +106,16 @@ remainder-known w =
     (λ t. eqb→eq (w .shares) 0 t)
     (λ t. by-test (RemainderOf w) _ (λ r. (omega tests, omega arith)) (λ r. by-test (RemainderOf w) _ (λ x. (omega tests, omega arith)) (λ x. (omega tests, neqb (w .life) 1 r))))
 
+-- an order that rests isn't immediate or cancel
+pub rests-later : (w : Order) → Rests ≡ remainder w → w.life ≡ 1 → ⊥
+rests-later w e = subst (RemainderOf w) (sym e) (remainder-known w) .1
+
 module _ {g n s : ℕ} {w : Order} {os : List Order} where
   withdrawing-sound : {o : Order} → List·Memᴰ o os → SoundWork g n s w os → SoundWork g n s ((withdrawing w o os) .left) ((withdrawing w o os) .orders)
   withdrawing-sound {o} m k =
       rw (withdrawing-known w o os) record {
         book = book-without (k .book) (o .id);
-        room = omega (arith, without-length (o .id) os, k .room);
+        place = place-kept (k .place) (without-length (o .id) os);
         works = k .works;
         newStamp = without-all (λ (x : Order). x.stamp ≡ w.stamp → ⊥) (o .id) os (k .newStamp);
         newId = without-all (Other (w .id)) (o .id) os (k .newId);
@@ -123,7 +128,7 @@ module _ {g n s : ℕ} {w : Order} {os : List Order} where
       let d : Distinct os = book-distinct (k .book) in
       rw (trading-known w o os) record {
         book = book-afterTrade (k .book) q m;
-        room = omega (arith, afterTrade-length q m d, k .room);
+        place = place-kept (k .place) (afterTrade-length q m d);
         works = mayWork-reduced g n s q w (k .works);
         newStamp = afterTrade-all q m d (λ (x : Order). x.stamp ≡ w.stamp → ⊥) (λ z j l h. h) (k .newStamp);
         newId = afterTrade-all q m d (Other (w .id)) (λ z j l h. h) (k .newId);
@@ -141,7 +146,7 @@ module _ {g n s : ℕ} {w : Order} {os : List Order} where
   afterRemainder-sound Rests h k =
       let t = insert-taken w os in
       record {
-        few = omega (arith, k .room, taken-length t);
+        few = omega (arith, k .place (h .1), taken-length t);
         rises = rises-insert 0 w os (k .positive) (k .newId) (k .book .rises);
         orders = all-taken (MayRest g n s) t (record { works = k .works; least = h .0; day = omega (arith, h .1, k .works .fields .life) }) (k .book .orders);
         stamps = differ-taken stampOf t (k .newStamp) (k .book .stamps);
@@ -204,7 +209,7 @@ atNewPrice-sound {g} {n} {s} {o} {os} p used h m b =
     let r : SoundBook g n s (without (o .id) os) = book-without b (o .id) in
     record {
       book = book-later r n (s + 1) (omega arith) (omega arith);
-      room = omega (arith, taken-length t, b .few);
+      place = λ z. omega (arith, taken-length t, b .few);
       works = record { fields = w .fields; id = w .id; first = omega arith; last = omega arith; price = h; most = w .most };
       newStamp = all-map (λ x k e. omega (arith, k .works .last)) (without (o .id) os) (r .orders);
       newId = without-other (o .id) os;
@@ -304,7 +309,7 @@ orderOf-sound v e k f o g =
     let p = f .place in
     record {
       book = book-later (g .book) (e .id) (v .lastStamp + 1) (omega (arith, p .newId)) (omega arith);
-      room = p .room;
+      place = p .room;
       works =
           record {
             fields = record { mark = c .mark; limit = t .limit; show = c .show; life = life-code m (e .mark) (e .price) (e .life) (c .life); slide = c .slide; entryBid = g .market .bid; market = follows-allowed m (e .mark) (e .price); owner = o };

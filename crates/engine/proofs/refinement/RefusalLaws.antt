@@ -1,9 +1,10 @@
 -- What is known of an event that isn't refused. Assumes nothing.
 use Prim.Native.Nat.{ℕ, _≤_, _<_}
+use native.Mathlib.Omega.{arith}
 use mathlib.Core.Bool.{Bool, true, false, not, _||_}
 use mathlib.Core.Logic.{_⊎_, inl, inr}
 use mathlib.Core.Option.{Option, none, some}
-use lib.Dec.{T, leb, leb→le, T-not}
+use lib.Dec.{T, leb, ltb, eqb, leb→le, eqb→eq, T-not}
 use lib.ListN.{length}
 use Rattle.numbers.proofs.TestLaws.{by-test, or-T, conj-T, T-and}
 use Rattle.prices.specs.Prices.{isStep, legal, isBid}
@@ -13,10 +14,11 @@ use Rattle.book.specs.rules.Sound.{mostShares, mostOwner, slideAllowed}
 use Rattle.engine.specs.declared.Entry.{Entry}
 use Rattle.engine.specs.declared.Event.{Event}
 use Rattle.engine.specs.declared.Event.the-variants.{Entry as entry, Cancel as cancel, Bid as bid, Tape as tape, DayEnd as dayEnd, OwnedEntry as ownedEntry}
-use Rattle.engine.specs.rules.Working.{isMarket, limitOf}
+use Rattle.engine.specs.rules.Working.{isMarket, limitOf, lifeOf}
 use Rattle.engine.specs.rules.Venue.{Venue}
 use Rattle.engine.specs.rules.Sound.{mostOrders, mostEvents, venueConditions, sound}
 use Rattle.engine.specs.rules.Refusals.{refuseUnless, firstOf, refusalOfTerms, refusalOfCodes, refusalOfOwner, refusalOfPlace, refusalOfEntry, rests, refusalOfKind, leastBuffer, refusal}
+use Rattle.engine.specs.steps.Steps.{HasPlace}
 
 -- the step of a sound record is 50 or 100
 pub sound-step : (v : Venue) → T (sound v) → T (isStep (v.market.step))
@@ -36,12 +38,12 @@ abbrev pub OwnerAllowed : ℕ → Type 0
 OwnerAllowed k = record { least : 1 ≤ k; most : k ≤ mostOwner }
 
 -- what those of its place leave
-abbrev pub PlaceAllowed : Venue → ℕ → Type 0
-PlaceAllowed v id = record { newId : v.lastId < id; room : length (v .orders) < mostOrders }
+abbrev pub PlaceAllowed : Venue → Entry → Type 0
+PlaceAllowed v e = record { newId : v.lastId < e.id; room : HasPlace (lifeOf (v .market) (e .mark) (e .price) (e .life)) (length (v .orders)) }
 
 -- what an entry of either kind has, and what the refusals of its kind leave of an event
 abbrev pub EntryAllowed : Venue → Entry → Type 0
-EntryAllowed v e = record { terms : TermsAllowed (v.market.step) e; codes : CodesAllowed e; place : PlaceAllowed v (e .id) }
+EntryAllowed v e = record { terms : TermsAllowed (v.market.step) e; codes : CodesAllowed e; place : PlaceAllowed v e }
 
 abbrev pub Allowed : Venue → Event → Type 0
 Allowed v (entry e) = EntryAllowed v e
@@ -105,9 +107,22 @@ unfolding refusalOfOwner
 refusalOfOwner-known k =
     refuseUnless-known _ (leb 1 k) _ _ (λ a. refuseUnless-known _ (leb k mostOwner) _ none (λ b. record { least = leb→le _ _ a; most = leb→le _ _ b }))
 
-refusalOfPlace-known : (v : Venue) (id : ℕ) → Unless (refusalOfPlace v id) (PlaceAllowed v id)
+-- an order has a place by the test
+place-there : (life count : ℕ) → T (ltb count mostOrders || eqb life 1) → HasPlace life count
+place-there life count t later = go (or-T (ltb count mostOrders) (eqb life 1) t)
+  where
+    go : T (ltb count mostOrders) ⊎ T (eqb life 1) → count < mostOrders
+    go (inl x) = leb→le _ _ x
+    go (inr x) = absurd (later (eqb→eq life 1 x))
+
+-- it stays where no more rest
+pub place-kept : {life count fewer : ℕ} → HasPlace life count → fewer ≤ count → HasPlace life fewer
+place-kept h l later = omega (arith, h later, l)
+
+refusalOfPlace-known : (v : Venue) (e : Entry) → Unless (refusalOfPlace v e) (PlaceAllowed v e)
 unfolding refusalOfPlace
-refusalOfPlace-known v id = refuseUnless-known _ _ _ _ (λ i. refuseUnless-known _ _ _ none (λ r. record { newId = leb→le _ _ i; room = leb→le _ _ r }))
+refusalOfPlace-known v e =
+    refuseUnless-known _ _ _ _ (λ i. refuseUnless-known _ _ _ none (λ r. record { newId = leb→le _ _ i; room = place-there _ (length (v .orders)) r }))
 
 -- an entry's, with what those of its owner leave
 refusalOfEntry-known : (v : Venue) → T (isStep (v.market.step)) → (e : Entry) (P : Type 0) (ofOwner : Option ℕ) → Unless ofOwner P → Unless (refusalOfEntry v e ofOwner) (EntryAllowed v e × P)
@@ -116,7 +131,7 @@ refusalOfEntry-known v is e P ofOwner h =
     firstOf-known _ _ _ _ (refusalOfTerms-known (v.market.step) is e) (λ t.
     firstOf-known _ _ _ _ (refusalOfCodes-known e) (λ c.
     firstOf-known _ _ _ _ h (λ o.
-    unless-map _ _ (λ p. (record { terms = t; codes = c; place = p }, o)) (refusalOfPlace v (e .id)) (refusalOfPlace-known v (e .id)))))
+    unless-map _ _ (λ p. (record { terms = t; codes = c; place = p }, o)) (refusalOfPlace v e) (refusalOfPlace-known v e))))
 
 pub refusalOfKind-known : (v : Venue) → T (isStep (v.market.step)) → (e : Event) → Unless (refusalOfKind v e) (Allowed v e)
 unfolding refusalOfKind

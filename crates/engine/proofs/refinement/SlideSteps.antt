@@ -55,7 +55,7 @@ module _ (w : List ℕ) (x : Order) (i : ℕ) (o : Ordered w) (h : i < length (r
           ordered = holds-ordered taken (rises-without 0 (x .id) (resting w) (ordered-rises o));
           apart = subst (All (Other (x .id))) (sym (taken .rests)) (without-other (x .id) (resting w));
           positive = omega (arith, ex, id-above 0 (resting w) emptyOrder i (ordered-rises o) h);
-          few = omega (arith, o .book .few, ap length (out .rests), taken-length (mem-taken (at-member (resting w) emptyOrder i h) (ordered-distinct o)));
+          place = λ z. omega (arith, o .book .few, ap length (out .rests), taken-length (mem-taken (at-member (resting w) emptyOrder i h) (ordered-distinct o)));
         }
 
     module _ {b b₁ : List ℕ} {at n : ℕ} (r : Room b at (repricedReports x (without (x .id) (resting w)))) (put : Put (reportBytes (repriced (x .id) (x .price) (x .stamp))) at b n b₁) where

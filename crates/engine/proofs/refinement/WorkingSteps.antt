@@ -26,7 +26,8 @@ use Rattle.engine.specs.rules.Reports.{executed, cancelled, sameFirm}
 use Rattle.engine.specs.rules.Records.{reportBytes}
 use Rattle.engine.specs.rules.Working.{Worked, remainder, afterRemainder, happened, work}
 use Rattle.engine.specs.steps.Memory.{Ordered, Room, Does}
-use Rattle.engine.specs.steps.Steps.{MayEnter, Meets, matchingReports, Matches, restedOrCancelled}
+use Rattle.engine.specs.steps.Steps.{HasPlace, MayEnter, Meets, matchingReports, Matches, restedOrCancelled}
+use Rattle.engine.proofs.refinement.RefusalLaws.{place-kept}
 use Rattle.engine.proofs.refinement.StepLaws.{put-as, put-one, room-as, room-first, room-one, room-then, ordered-rises, ordered-distinct, holds-ordered, holds-header, does-holds, does-as, does-then, at-member, Underway, underway-start, underway-as, underway-room, underway-then, underway-end}
 
 -- an execution, by the side of the working order
@@ -123,9 +124,10 @@ unfolding withdrawing
 meeting-less o x os r d =
     meeting-by (λ (z : Meeting). length (z .orders) + z .left .shares < length os + o .shares) o x os (omega (arith, taken-length (mem-taken (r .0) d))) (trading-less o x os r d)
 
--- what a meeting leaves: the working order's id, other ids in the book, no more orders
+-- what a meeting leaves: the working order's id and life, other ids in the book, no more orders
 record Leaves (o : Order) (os : List Order) (z : Meeting) : Type 0 where
   same : z .left .id ≡ o .id
+  life : z .left .life ≡ o .life
   apart : All (Other (o .id)) (z .orders)
   few : length (z .orders) ≤ length os
 
@@ -134,8 +136,8 @@ unfolding trading withdrawing
 meeting-leaves o x os member d k =
     let q : ℕ = min (o .shares) (x .shares) in
     meeting-by (Leaves o os) o x os
-    (record { same = refl; apart = without-all (Other (o .id)) (x .id) os k; few = omega (arith, taken-length (mem-taken member d)) })
-    (record { same = refl; apart = afterTrade-all q member d (Other (o .id)) (λ z n l f. f) k; few = afterTrade-length q member d })
+    (record { same = refl; life = refl; apart = without-all (Other (o .id)) (x .id) os k; few = omega (arith, taken-length (mem-taken member d)) })
+    (record { same = refl; life = refl; apart = afterTrade-all q member d (Other (o .id)) (λ z n l f. f) k; few = afterTrade-length q member d })
 
 -- what is left of the working order may enter what is left of the book
 meets-enters : {w w′ b b′ : List ℕ} {n e : ℕ} {o x left : Order} → MayEnter o w → List·Memᴰ x (resting w) → Meets w w′ b b′ n (meeting o x (resting w)) left e → MayEnter left w′
@@ -146,7 +148,7 @@ meets-enters {w} {w′} {o = o} {x = x} {left = left} k member m =
       ordered = m .does .ordered;
       apart = subst (λ (i : ℕ). All (Other i) (resting w′)) (sym same) (subst (All (Other (o .id))) (sym (m .does .orders)) (v .apart));
       positive = omega (arith, same, k .positive);
-      few = omega (arith, ap length (m .does .orders), v .few, k .few);
+      place = subst (λ (l : ℕ). HasPlace l (length (resting w′))) (sym (ap (λ (a : Order). a .life) (m .rests) ∙ v .life)) (place-kept (k .place) (omega (arith, ap length (m .does .orders), v .few)));
     }
 
 -- matching as a loop: what is still to be done with o, which is left, and the words w gives what was to be done with o₀ and w₀

@@ -101,9 +101,9 @@ codes-others : (e : Entry) → ofVenueTermsOrMark (refusalOfOtherCodes e) ≡ no
 unfolding ofVenueTermsOrMark pick
 codes-others e = others-later _ 5 _ refl (others-later _ 5 _ refl (others-later _ 19 _ refl (others-later _ 20 none refl refl)))
 
-place-others : (v : Venue) (id : ℕ) → ofVenueTermsOrMark (refusalOfPlace v id) ≡ none
+place-others : (v : Venue) (e : Entry) → ofVenueTermsOrMark (refusalOfPlace v e) ≡ none
 unfolding refusalOfPlace ofVenueTermsOrMark pick
-place-others v id = others-later _ 6 _ refl (others-later _ 7 none refl refl)
+place-others v e = others-later _ 6 _ refl (others-later _ 7 none refl refl)
 
 codes-and-place : (b : Bool) (codes place : Option ℕ) → ofVenueTermsOrMark codes ≡ none → ofVenueTermsOrMark place ≡ none → ofVenueTermsOrMark (firstOf (refuseUnless b 18 codes) place) ≡ refuseUnless b 18 none
 unfolding refuseUnless firstOf ofVenueTermsOrMark pick
@@ -114,7 +114,7 @@ kind-asked : (v : Venue) (e : Entry) → ofVenueTermsOrMark (refusalOfKind v (en
 unfolding refusalOfKind refusalOfEntry firstOf refusalOfAsked refusalOfCodes
 kind-asked v e =
     asked-first (refusalOfTerms (v.market.step) (e .price) (e .shares)) _ (terms-asked (v.market.step) (e .price) (e .shares))
-    ∙ ap (firstOf (refusalOfTerms (v.market.step) (e .price) (e .shares))) (codes-and-place _ (refusalOfOtherCodes e) (refusalOfPlace v (e .id)) (codes-others e) (place-others v (e .id)))
+    ∙ ap (firstOf (refusalOfTerms (v.market.step) (e .price) (e .shares))) (codes-and-place _ (refusalOfOtherCodes e) (refusalOfPlace v e) (codes-others e) (place-others v e))
 
 refusal-asked : (v : Venue) (e : Entry) (n : ℕ) → leastBuffer ≤ n → v.acceptedEvents < mostEvents → ofVenueTermsOrMark (refusal v (entry e) n) ≡ refuseUnless (sound v) 16 (refusalOfAsked (v.market.step) (e .mark) (e .price) (e .shares))
 unfolding refusal ofVenueTermsOrMark pick

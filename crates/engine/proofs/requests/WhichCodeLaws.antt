@@ -17,7 +17,8 @@ use Rattle.engine.specs.rules.Refusals.{refuseUnless, firstOf, refusalOf
 use Rattle.engine.specs.rules.Run.{Step, stepUnless, step}
 use Rattle.engine.specs.rules.Answers.{countOf, bufferAfter}
 use Rattle.engine.specs.rules.Layout.{venueOf, stepIn}
-use Rattle.engine.specs.claims.WhichCode.{codesBefore, entryBefore, kindBefore, refusalBefore, stepBefore, readAs5, refusalRead, answerRead, CodesAsBefore, stepInBefore, CallsAsBefore}
+use Rattle.engine.specs.claims.WhichCode.{codesBefore, entryBefore, readAs5, refusalRead, answerRead, CodesAsBefore, CallsAsBefore}
+use Rattle.engine.specs.claims.OtherRefusals.{kindWith, refusalWith, stepWith, stepInWith}
 
 -- of the refusals
 
@@ -49,9 +50,9 @@ terms-read : (s price shares : ℕ) → refusalRead (refusalOfTerms s price shar
 unfolding refusalOfTerms pick
 terms-read s price shares = read-later _ 3 _ _ refl (read-later _ 4 _ _ refl (read-later _ 4 none none refl refl))
 
-place-read : (v : Venue) (id : ℕ) → refusalRead (refusalOfPlace v id) ≡ refusalOfPlace v id
+place-read : (v : Venue) (e : Entry) → refusalRead (refusalOfPlace v e) ≡ refusalOfPlace v e
 unfolding refusalOfPlace pick
-place-read v id = read-later _ 6 _ _ refl (read-later _ 7 none none refl refl)
+place-read v e = read-later _ 6 _ _ refl (read-later _ 7 none none refl refl)
 
 owner-read : (k : ℕ) → refusalRead (refusalOfOwner k) ≡ refusalOfOwner k
 unfolding refusalOfOwner pick
@@ -60,9 +61,9 @@ owner-read k = read-later _ 21 _ _ refl (read-later _ 21 none none refl refl)
 entry-read : (v : Venue) (e : Entry) (ofOwner : Option ℕ) → refusalRead ofOwner ≡ ofOwner → refusalRead (refusalOfEntry v e ofOwner) ≡ entryBefore v e ofOwner
 unfolding refusalOfEntry
 entry-read v e ofOwner h =
-    read-first (refusalOfTerms (v.market.step) (e .price) (e .shares)) _ ∙ rw (terms-read (v.market.step) (e .price) (e .shares), read-first (refusalOfCodes e) (firstOf ofOwner (refusalOfPlace v (e .id))), codes-read e, read-first ofOwner (refusalOfPlace v (e .id)), h, place-read v (e .id))
+    read-first (refusalOfTerms (v.market.step) (e .price) (e .shares)) _ ∙ rw (terms-read (v.market.step) (e .price) (e .shares), read-first (refusalOfCodes e) (firstOf ofOwner (refusalOfPlace v e)), codes-read e, read-first ofOwner (refusalOfPlace v e), h, place-read v e)
 
-kind-read : (v : Venue) (x : Event) → refusalRead (refusalOfKind v x) ≡ kindBefore v x
+kind-read : (v : Venue) (x : Event) → refusalRead (refusalOfKind v x) ≡ kindWith entryBefore v x
 unfolding refusalOfKind pick
 kind-read v (entry e) = entry-read v e none refl
 kind-read v (cancel i) = read-later _ 8 none none refl refl
@@ -71,7 +72,7 @@ kind-read v (tape p) = read-later _ 3 none none refl refl
 kind-read v (dayEnd c) = read-later _ 3 none none refl refl
 kind-read v (ownedEntry e k) = entry-read v e (refusalOfOwner k) (owner-read k)
 
-refusal-read : (v : Venue) (x : Event) (n : ℕ) → refusalRead (refusal v x n) ≡ refusalBefore v x n
+refusal-read : (v : Venue) (x : Event) (n : ℕ) → refusalRead (refusal v x n) ≡ refusalWith entryBefore v x n
 unfolding refusal pick
 refusal-read v x n = read-later _ 16 _ _ refl (read-later _ 1 _ _ refl (read-later _ 2 _ _ refl (kind-read v x)))
 
@@ -115,12 +116,12 @@ module _ (w : List ℕ) (x : Event) (n : ℕ) where
   abbrev SameStep : Step → Step → Type 0
   SameStep s t = record { answer : answerRead (s .answer) ≡ t .answer; venue : s.venue ≡ t.venue }
 
-  chosen : (laid : Bool) → SameStep (pick laid (step (venueOf w) x n) broken) (pick laid (stepBefore (venueOf w) x n) broken)
+  chosen : (laid : Bool) → SameStep (pick laid (step (venueOf w) x n) broken) (pick laid (stepWith entryBefore (venueOf w) x n) broken)
   unfolding pick
   chosen true = let y = codes-as-before (venueOf w) x n in record { answer = y .answer; venue = y .venue }
   chosen false = record { answer = refl; venue = refl }
 
-  called : SameStep (stepIn w x n) (stepInBefore w x n)
+  called : SameStep (stepIn w x n) (stepInWith entryBefore w x n)
   unfolding stepIn
   called = chosen (isBook w)
 

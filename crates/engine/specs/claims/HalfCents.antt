@@ -53,7 +53,7 @@ refusalOfEntryBefore v e ofOwner =
     (refuseUnless (leb 1 (e .shares)) 4
     (refuseUnless (leb (e .shares) mostShares) 4
     none)))
-    (firstOf (refusalOfCodes e) (firstOf ofOwner (refusalOfPlace v (e .id))))
+    (firstOf (refusalOfCodes e) (firstOf ofOwner (refusalOfPlace v e)))
 
 abbrev pub refusalBefore : Venue → Event → Option ℕ
 refusalBefore v (entry e) = refusalOfEntryBefore v e none

@@ -139,8 +139,8 @@ MovesAsBefore = (m : Market) (o : Order) → T (not (o .market && eqb (m .bid) 0
 -- an entry with a price other than 0, of either kind, has the terms of before, beside the codes, owner and place of now, and reports and leaves what it
 -- did before
 pub record EntryAsBefore (v : Venue) (e : Entry) : Type 0 where
-  pub refusal : refusalOfKind v (entry e) ≡ firstOf (termsBefore (v.market.step) (e .price) (e .shares)) (firstOf (refusalOfCodes e) (refusalOfPlace v (e .id)))
-  pub owned : (k : ℕ) → refusalOfKind v (ownedEntry e k) ≡ firstOf (termsBefore (v.market.step) (e .price) (e .shares)) (firstOf (refusalOfCodes e) (firstOf (refusalOfOwner k) (refusalOfPlace v (e .id))))
+  pub refusal : refusalOfKind v (entry e) ≡ firstOf (termsBefore (v.market.step) (e .price) (e .shares)) (firstOf (refusalOfCodes e) (refusalOfPlace v e))
+  pub owned : (k : ℕ) → refusalOfKind v (ownedEntry e k) ≡ firstOf (termsBefore (v.market.step) (e .price) (e .shares)) (firstOf (refusalOfCodes e) (firstOf (refusalOfOwner k) (refusalOfPlace v e)))
   pub effect : (k : ℕ) → effectOfEntry (v .market) v k e ≡ effectBefore (v .market) v k e
 
 abbrev pub EntriesAsBefore : Type 0

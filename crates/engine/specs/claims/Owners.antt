@@ -208,7 +208,7 @@ unownedUnless none v e =
     let x : Effect = unownedEffect (marketAfter e (v .market)) v e in
     record { answer = gives (x .reports); venue = venueAfter v e x }
 
--- it is refused as now; that kind 1 has no refusal for an owner is No. 3's claim too (`kindBefore`)
+-- it is refused as now; that kind 1 has no refusal for an owner is No. 3's claim too (`kindWith`)
 abbrev pub unownedStep : Venue → Event → ℕ → Step
 unownedStep v e n = unownedUnless (refusal v e n) v e
 

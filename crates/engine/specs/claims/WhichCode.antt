@@ -5,49 +5,29 @@ use mathlib.Core.Path.{_≡_}
 use mathlib.Core.Bool.{_||_}
 use mathlib.Core.List.{List, [], _∷_}
 use mathlib.Core.Option.{Option, none, some}
-use lib.Dec.{leb, ltb, eqb}
+use lib.Dec.{leb, eqb}
 use lib.ListN.{length}
 use Rattle.numbers.specs.Tests.{pick, conj}
 use Rattle.numbers.specs.Answers.{Outcome, gives, refuses}
 use Rattle.book.specs.rules.Sound.{slideAllowed}
-use Rattle.book.specs.rules.Words.{isBook}
 use Rattle.engine.specs.declared.Entry.{Entry}
 use Rattle.engine.specs.declared.Event.{Event}
-use Rattle.engine.specs.declared.Event.the-variants.{Entry as entry, Cancel as cancel, Bid as bid, Tape as tape, DayEnd as dayEnd, OwnedEntry as ownedEntry}
 use Rattle.engine.specs.rules.Venue.{Venue}
-use Rattle.engine.specs.rules.Sound.{mostEvents, sound}
-use Rattle.engine.specs.rules.Refusals.{refuseUnless, firstOf, refusalOfTerms, refusalOfOwner, refusalOfPlace, refusalOfKind, leastBuffer, refusal}
-use Rattle.engine.specs.rules.Run.{Step, stepUnless, step}
+use Rattle.engine.specs.rules.Refusals.{refuseUnless, firstOf, refusalOfTerms, refusalOfPlace, refusal}
+use Rattle.engine.specs.rules.Run.{step}
 use Rattle.engine.specs.rules.Answers.{countOf, bufferAfter}
 use Rattle.engine.specs.rules.Layout.{venueOf}
 use Rattle.engine.specs.claims.Calls.{Applied}
+use Rattle.engine.specs.claims.OtherRefusals.{EntryRefusals, refusalWith, stepWith, stepInWith}
 
 -- Before No. 3: "5 mark, show, life or slide"
 abbrev pub codesBefore : Entry → Option ℕ
 codesBefore e = refuseUnless (conj (leb (e .mark) 3 ∷ leb (e .show) 1 ∷ leb (e .life) 1 ∷ slideAllowed (e .mark) (e .slide) ∷ [])) 5 none
 
--- the refusals of an entry, of an event, and what it does, with those in the place of the codes; beside them the owner's are those of now
-abbrev pub entryBefore : Venue → Entry → Option ℕ → Option ℕ
+-- the refusals of an entry with those in the place of the codes; beside them terms, owner and place are those of now
+abbrev pub entryBefore : EntryRefusals
 entryBefore v e ofOwner =
-    firstOf (refusalOfTerms (v.market.step) (e .price) (e .shares)) (firstOf (codesBefore e) (firstOf ofOwner (refusalOfPlace v (e .id))))
-
-abbrev pub kindBefore : Venue → Event → Option ℕ
-kindBefore v (entry e) = entryBefore v e none
-kindBefore v (cancel i) = refusalOfKind v (cancel i)
-kindBefore v (bid b) = refusalOfKind v (bid b)
-kindBefore v (tape p) = refusalOfKind v (tape p)
-kindBefore v (dayEnd c) = refusalOfKind v (dayEnd c)
-kindBefore v (ownedEntry e k) = entryBefore v e (refusalOfOwner k)
-
-abbrev pub refusalBefore : Venue → Event → ℕ → Option ℕ
-refusalBefore v x n =
-    refuseUnless (sound v) 16
-    (refuseUnless (leb leastBuffer n) 1
-    (refuseUnless (ltb (v .acceptedEvents) mostEvents) 2
-    (kindBefore v x)))
-
-abbrev pub stepBefore : Venue → Event → ℕ → Step
-stepBefore v x n = stepUnless (refusalBefore v x n) v x
+    firstOf (refusalOfTerms (v.market.step) (e .price) (e .shares)) (firstOf (codesBefore e) (firstOf ofOwner (refusalOfPlace v e)))
 
 -- 18, 19 and 20 read as 5
 abbrev pub readAs5 : ℕ → ℕ
@@ -63,21 +43,18 @@ answerRead (refuses n) = refuses (readAs5 n)
 
 -- read so, every event is refused as before: nothing is accepted or refused that wasn't; the reports and the venue are those of before
 pub record ReadAsBefore (v : Venue) (x : Event) (n : ℕ) : Type 0 where
-  pub refusal : refusalRead (refusal v x n) ≡ refusalBefore v x n
-  pub answer : answerRead (step v x n .answer) ≡ stepBefore v x n .answer
-  pub venue : step v x n .venue ≡ stepBefore v x n .venue
+  pub refusal : refusalRead (refusal v x n) ≡ refusalWith entryBefore v x n
+  pub answer : answerRead (step v x n .answer) ≡ stepWith entryBefore v x n .answer
+  pub venue : step v x n .venue ≡ stepWith entryBefore v x n .venue
 
 abbrev pub CodesAsBefore : Type 0
 CodesAsBefore = (v : Venue) (x : Event) (n : ℕ) → ReadAsBefore v x n
 
 -- the same of every call of apply, on any words and any buffer
-abbrev pub stepInBefore : List ℕ → Event → ℕ → Step
-stepInBefore w x n = pick (isBook w) (stepBefore (venueOf w) x n) (record { answer = refuses 16; venue = venueOf w })
-
 pub record CallAsBefore (w : List ℕ) (x : Event) (b : List ℕ) (answer : Outcome ℕ) (w′ b′ : List ℕ) : Type 0 where
-  pub answers : answerRead answer ≡ countOf (stepInBefore w x (length b) .answer)
-  pub buffer : b′ ≡ bufferAfter b (stepInBefore w x (length b) .answer)
-  pub venue : venueOf w′ ≡ stepInBefore w x (length b) .venue
+  pub answers : answerRead answer ≡ countOf (stepInWith entryBefore w x (length b) .answer)
+  pub buffer : b′ ≡ bufferAfter b (stepInWith entryBefore w x (length b) .answer)
+  pub venue : venueOf w′ ≡ stepInWith entryBefore w x (length b) .venue
 
 abbrev pub CallsAsBefore : Type 0
 CallsAsBefore =

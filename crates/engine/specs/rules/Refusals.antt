@@ -1,4 +1,4 @@
--- The refusals of an event and of a question, in their order: document 01, "Operations", and document 02, No. 1 to No. 4 and No. 7. Assumes nothing.
+-- The refusals of an event and of a question, in their order: document 01, "Operations", and document 02, No. 1 to No. 4, No. 7 and No. 8. Assumes nothing.
 use Prim.Native.Nat.{ℕ}
 use mathlib.Core.Bool.{Bool, true, false, _||_}
 use mathlib.Core.Option.{Option, none, some}
@@ -7,10 +7,11 @@ use lib.ListN.{length}
 use Rattle.prices.specs.Prices.{legal, isBid}
 use Rattle.book.specs.declared.Order.{Order}
 use Rattle.book.specs.rules.Orders.{find}
+use Rattle.engine.specs.declared.Market.{Market}
 use Rattle.engine.specs.declared.Entry.{Entry}
 use Rattle.engine.specs.declared.Event.{Event}
 use Rattle.engine.specs.declared.Event.the-variants.{Entry as entry, Cancel as cancel, Bid as bid, Tape as tape, DayEnd as dayEnd, OwnedEntry as ownedEntry}
-use Rattle.engine.specs.rules.Working.{isMarket}
+use Rattle.engine.specs.rules.Working.{isMarket, lifeOf}
 use Rattle.engine.specs.rules.Venue.{Venue}
 use Rattle.book.specs.rules.Sound.{mostShares, mostOwner}
 use Rattle.engine.specs.rules.Sound.{mostOrders, mostEvents, sound}
@@ -60,11 +61,15 @@ refusalOfOwner k =
     (refuseUnless (leb k mostOwner) 21
     none)
 
--- its place: "6 id not above the last accepted id (0 never is); 7 if 256 orders rest"
-unfoldable pub refusalOfPlace : Venue → ℕ → Option ℕ
-refusalOfPlace v id =
-    refuseUnless (ltb (v .lastId) id) 6
-    (refuseUnless (ltb (length (v .orders)) mostOrders) 7
+-- No. 8: "an immediate or cancel order needs no place, nor does a market order taken as one", by what counts as its life and not by what becomes of it
+abbrev pub needsNoPlace : Market → Entry → Bool
+needsNoPlace m e = eqb (lifeOf m (e .mark) (e .price) (e .life)) 1
+
+-- its place: "6 id not above the last accepted id (0 never is); 7 if 256 orders rest"; No. 8: "only the remaining orders meet 7"
+unfoldable pub refusalOfPlace : Venue → Entry → Option ℕ
+refusalOfPlace v e =
+    refuseUnless (ltb (v .lastId) (e .id)) 6
+    (refuseUnless (ltb (length (v .orders)) mostOrders || needsNoPlace (v .market) e) 7
     none)
 
 -- No. 4: "price, shares and mark are refused as in an entry"
@@ -77,7 +82,7 @@ refusalOfEntry v e ofOwner =
     firstOf (refusalOfTerms (v.market.step) (e .price) (e .shares))
     (firstOf (refusalOfCodes e)
     (firstOf ofOwner
-    (refusalOfPlace v (e .id))))
+    (refusalOfPlace v e)))
 
 -- an order was found
 unfoldable pub rests : Option Order → Bool

@@ -30,12 +30,16 @@ abbrev pub entryBy : Entry → ℕ → Event
 entryBy e zero = entry e
 entryBy e (suc k) = ownedEntry e (suc k)
 
--- the order o may enter the book of the words w: no order rests under its id, which is above 0, and fewer than 256 rest
+-- an order of this life has a place where so many rest: fewer than 256 do, or it is immediate or cancel (No. 8)
+abbrev pub HasPlace : ℕ → ℕ → Type 0
+HasPlace life count = (life ≡ 1 → ⊥) → count < 256
+
+-- the order o may enter the book of the words w: no order rests under its id, which is above 0, and it has a place
 pub record MayEnter (o : Order) (w : List ℕ) : Type 0 where
   pub ordered : Ordered w
   pub apart : All (λ (x : Order). x .id ≡ o .id → ⊥) (resting w)
   pub positive : 0 < o .id
-  pub few : length (resting w) < 256
+  pub place : HasPlace (o .life) (length (resting w))
 
 -- one meeting, done, and what is left of the working order
 pub record Meets (w w′ b b′ : List ℕ) (at : ℕ) (x : Meeting) (left : Order) (end : ℕ) : Type 0 where

@@ -1,10 +1,11 @@
 -- `place_refusal` by its tests, in their order. Assumes nothing.
 use native.Mathlib.Omega.{arith}
-use mathlib.Core.Path.{sym, _∙_}
-use lib.ListN.{length, getD}
+use mathlib.Core.Path.{_≡_, sym, _∙_}
+use mathlib.Core.Bool.{true}
+use lib.Dec.{ltb}
+use lib.ListN.{getD}
 use borrow.Author.Tests.{lt-ltb, le-ltb}
-use Rattle.book.specs.rules.Words.{resting}
-use Rattle.engine.specs.rules.Sound.{mostOrders}
+use Rattle.numbers.proofs.TestLaws.{not-yes, not-no}
 use Rattle.engine.specs.rules.Refusals.{refusalOfPlace}
 use Rattle.engine.specs.rules.Layout.{venueOf}
 use Rattle.engine.proofs.refinement.RefuseLaws.{refuse-yes, refuse-no}
@@ -18,28 +19,27 @@ header-word-requires c κs = search needs
 returns : tie.Need-returns
 unfolding refusalOfPlace venueOf
 returns c =
-    let s = c .before .before .before in
-    sym (refuse-no _ _ _ (le-ltb (getD (s .args .w .now) 4 0) (s .args .id) (omega (arith, c .before .header-word .ensures, c .if1 .taken))))
+    let s = c .before .before .before .before in
+    sym (refuse-no _ _ _ (le-ltb (getD (s .args .w .now) 4 0) (s .args .e .id) (omega (arith, c .before .before .header-word .ensures, c .if1 .taken))))
 
-count-requires : tie.Need-count-requires
-count-requires c κs = search needs
+has-place-requires : tie.Need-has-place-requires
+has-place-requires c κs = search needs
+
+-- the id is new
+new-id : (h : tie.Else1) → let s = h .before .before .before .before in ltb (getD (s .args .w .now) 4 0) (s .args .e .id) ≡ true
+new-id h = let s = h .before .before .before .before in lt-ltb (getD (s .args .w .now) 4 0) (s .args .e .id) (omega (arith, h .before .before .header-word .ensures, h .if1 .left))
 
 returns-2 : tie.Need-returns-2
 unfolding refusalOfPlace venueOf
 returns-2 c =
-    let h = c .before .before in
-    let s = h .before .before .before in
-    let w = s .args .w .now in
-    sym (refuse-yes _ _ _ (lt-ltb (getD w 4 0) (s .args .id) (omega (arith, h .before .header-word .ensures, h .if1 .left))) ∙ refuse-no _ _ _ (le-ltb (length (resting w)) mostOrders (omega (arith, c .before .count .ensures, c .if2 .taken))))
+    let p = c .before in
+    sym (refuse-yes _ _ _ (new-id (p .before)) ∙ refuse-no _ _ _ (sym (p .has-place .ensures) ∙ not-yes (p .has-place .result) (c .if2 .taken)))
 
 returns-3 : tie.Need-returns-3
 unfolding refusalOfPlace venueOf
 returns-3 c =
-    let h = c .before .before in
-    let s = h .before .before .before in
-    let w = s .args .w .now in
-    sym (refuse-yes _ _ _ (lt-ltb (getD w 4 0) (s .args .id) (omega (arith, h .before .header-word .ensures, h .if1 .left))) ∙ refuse-yes _ _ _ (lt-ltb (length (resting w)) mostOrders (omega (arith, c .before .count .ensures, c .if2 .left))))
+    let p = c .before in
+    sym (refuse-yes _ _ _ (new-id (p .before)) ∙ refuse-yes _ _ _ (sym (p .has-place .ensures) ∙ not-no (p .has-place .result) (c .if2 .left)))
 
 pub place-refusal-spec : {M : Type 1} → statement M
-place-refusal-spec =
-    tie.close (tie.spec header-word-requires returns count-requires returns-2 returns-3)
+place-refusal-spec = tie.close (tie.spec header-word-requires returns has-place-requires returns-2 returns-3)
