@@ -6,3 +6,4 @@ pub mod WhichCodeLaws
 pub mod FillLaws
 pub mod FallingAgainLaws
 pub mod OwnerLaws
+pub mod FullBookLaws

@@ -26,6 +26,7 @@ use Rattle.book.proofs.definitions.MatchingLaws.{afterTrade-all, afterTrade-dif
 use Rattle.book.proofs.definitions.FillLaws.{front-fills, front-enough, front-shortest, front-whole, reached-alike, matching-left}
 use Rattle.engine.specs.declared.Market.{Market}
 use Rattle.engine.specs.declared.Entry.{Entry}
+use Rattle.engine.specs.declared.Event.{Event}
 use Rattle.engine.specs.declared.Event.the-variants.{Entry as entry}
 use Rattle.engine.specs.declared.Remainder.{Remainder}
 use Rattle.engine.specs.declared.Remainder.the-variants.{Filled, Cancelled, Rests}
@@ -128,7 +129,7 @@ unfolding fillUnless
 fill-given none v mark price shares = refl
 fill-given (some n) v mark price shares = refl
 
-step-given : (x : Option ℕ) (v : Venue) (e : Entry) → refusalGiven (stepUnless x v (entry e) .answer) ≡ x
+pub step-given : (x : Option ℕ) (v : Venue) (e : Event) → refusalGiven (stepUnless x v e .answer) ≡ x
 unfolding stepUnless
 step-given none v e = refl
 step-given (some n) v e = refl
@@ -141,7 +142,7 @@ refused-by-kind v e =
 pub refused-as-entries : RefusedAsEntries
 unfolding wouldFill step
 refused-as-entries v e n b a =
-    fill-given _ v (e .mark) (e .price) (e .shares) ∙ sym (refusal-asked v e n b a) ∙ ap ofVenueTermsOrMark (sym (step-given (refusal v (entry e) n) v e))
+    fill-given _ v (e .mark) (e .price) (e .shares) ∙ sym (refusal-asked v e n b a) ∙ ap ofVenueTermsOrMark (sym (step-given (refusal v (entry e) n) v (entry e)))
 
 pub no-question-gets-16 : NoQuestionGets16
 no-question-gets-16 s close v o cs = sound-not-16 _ (venue-sound _ (reached-sound s close v o cs))
