@@ -39,6 +39,7 @@ use Rattle.engine.proofs.refinement.RefusalLaws.{Unless, NotRefused, re
 use Rattle.engine.proofs.refinement.RefuseLaws.{refuse-yes}
 use Rattle.engine.proofs.demand3.SoundLaws.{RemainderOf, remainder-known, SoundVenue, sound-venue, book-distinct}
 use Rattle.engine.proofs.requests.FillLaws.{step-given}
+use Rattle.engine.proofs.requests.OtherRefusalLaws.{in-words}
 
 -- who needs no place
 
@@ -297,3 +298,58 @@ full-books-trade v x b =
 
 pub never-takes-a-place : NeverTakesAPlace
 never-takes-a-place v x b rs t h = takes-none v x b (not-refused v x b rs h) t
+
+-- of a call
+
+count-given : (y : Outcome (List Report)) → refusalGiven (countOf y) ≡ refusalGiven y
+count-given (gives rs) = refl
+count-given (refuses n) = refl
+
+-- the step of the words and that of before
+record Called (v : Venue) (x : Event) (now was : Step) : Type 0 where
+  refusal : refusalGiven (now .answer) ≡ lifted (entersWithoutPlace (v .market) x) (refusalGiven (was .answer))
+  acceptedBefore : (rs : List Report) → was .answer ≡ gives rs → now ≡ was
+  taken : (rs : List Report) → T (entersWithoutPlace (v .market) x) → now .answer ≡ gives rs → NoPlaceTaken (v .lastId) (v .orders) (now .venue .orders)
+
+called : (w : List ℕ) (x : Event) (n : ℕ) → Called (venueOf w) x (stepIn w x n) (stepInWith entryBefore w x n)
+unfolding step
+called w x n =
+    let v = venueOf w in
+    let z = entersWithoutPlace (v .market) x in
+    let f = full-books-trade v x n in
+    in-words
+    (Called v x)
+    entryBefore
+    w
+    x
+    n
+    (record {
+      refusal = step-given (refusal v x n) v x ∙ f .refusal ∙ ap (lifted z) (sym (step-given (refusalWith entryBefore v x n) v x));
+      acceptedBefore = f .acceptedBefore;
+      taken = never-takes-a-place v x n;
+    })
+    (record {
+      refusal = sym (other-kept z 16 refl);
+      acceptedBefore = λ rs h. refl;
+      taken = λ rs t h. let y : _≡_ {A = ℕ} 0 1 = cc in absurd (omega arith);
+    })
+
+-- a count stands for reports
+counted : (y : Outcome (List Report)) (n : ℕ) → gives n ≡ countOf y → (rs : List Report) × (y ≡ gives rs)
+counted (gives rs) n h = (rs, refl)
+counted (refuses k) n h = let y : _≡_ {A = ℕ} 0 1 = cc in absurd (omega arith)
+
+pub full-books-trade-in-calls : FullBooksTradeInCalls
+unfolding venueOf
+full-books-trade-in-calls w x b answer w′ b′ a =
+    let now = stepIn w x (length b) in
+    let r = called w x (length b) in
+    record {
+      refusal = ap refusalGiven (a .answers) ∙ count-given (now .answer) ∙ r .refusal;
+      acceptedBefore = λ rs h.
+          let e = r .acceptedBefore rs h in
+          record { answers = a .answers ∙ ap (λ (s : Step). countOf (s .answer)) e; buffer = a .buffer ∙ ap (λ (s : Step). bufferAfter b (s .answer)) e; venue = a .venue ∙ ap (λ (s : Step). s .venue) e };
+      noPlaceTaken = λ count t h.
+          let c = counted (now .answer) count (sym h ∙ a .answers) in
+          subst (λ (os : List Order). NoPlaceTaken (venueOf w .lastId) (resting w) os) (sym (ap (λ (v : Venue). v .orders) (a .venue))) (r .taken (c .0) t (c .1));
+    }

@@ -18,7 +18,8 @@ use Rattle.engine.specs.rules.Run.{Step, stepUnless, step}
 use Rattle.engine.specs.rules.Answers.{countOf, bufferAfter}
 use Rattle.engine.specs.rules.Layout.{venueOf, stepIn}
 use Rattle.engine.specs.claims.WhichCode.{codesBefore, entryBefore, readAs5, refusalRead, answerRead, CodesAsBefore, CallsAsBefore}
-use Rattle.engine.specs.claims.OtherRefusals.{kindWith, refusalWith, stepWith, stepInWith}
+use Rattle.engine.specs.claims.OtherRefusals.{kindWith, refusalWith, stepInWith}
+use Rattle.engine.proofs.requests.OtherRefusalLaws.{in-words}
 
 -- of the refusals
 
@@ -108,22 +109,15 @@ buffer-read : (b : List ℕ) (x : Outcome (List Report)) → bufferAfter b x ≡
 buffer-read b (gives rs) = refl
 buffer-read b (refuses n) = refl
 
--- words that are laid out as no venue are refused with 16, as before
-module _ (w : List ℕ) (x : Event) (n : ℕ) where
-  abbrev broken : Step
-  broken = record { answer = refuses 16; venue = venueOf w }
+-- the step of the words and that of before
+abbrev SameStep : Step → Step → Type 0
+SameStep s t = record { answer : answerRead (s .answer) ≡ t .answer; venue : s.venue ≡ t.venue }
 
-  abbrev SameStep : Step → Step → Type 0
-  SameStep s t = record { answer : answerRead (s .answer) ≡ t .answer; venue : s.venue ≡ t.venue }
-
-  chosen : (laid : Bool) → SameStep (pick laid (step (venueOf w) x n) broken) (pick laid (stepWith entryBefore (venueOf w) x n) broken)
-  unfolding pick
-  chosen true = let y = codes-as-before (venueOf w) x n in record { answer = y .answer; venue = y .venue }
-  chosen false = record { answer = refl; venue = refl }
-
-  called : SameStep (stepIn w x n) (stepInWith entryBefore w x n)
-  unfolding stepIn
-  called = chosen (isBook w)
+called : (w : List ℕ) (x : Event) (n : ℕ) → SameStep (stepIn w x n) (stepInWith entryBefore w x n)
+unfolding pick
+called w x n =
+    let y = codes-as-before (venueOf w) x n in
+    in-words SameStep entryBefore w x n (record { answer = y .answer; venue = y .venue }) (record { answer = refl; venue = refl })
 
 pub calls-as-before : CallsAsBefore
 calls-as-before w x b answer w′ b′ a =

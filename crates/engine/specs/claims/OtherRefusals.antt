@@ -39,5 +39,8 @@ abbrev pub stepWith : EntryRefusals → Venue → Event → ℕ → Step
 stepWith ofEntry v x n = stepUnless (refusalWith ofEntry v x n) v x
 
 -- of the venue that words mean; words that are laid out as none are refused with 16
+abbrev pub noVenue : List ℕ → Step
+noVenue w = record { answer = refuses 16; venue = venueOf w }
+
 abbrev pub stepInWith : EntryRefusals → List ℕ → Event → ℕ → Step
-stepInWith ofEntry w x n = pick (isBook w) (stepWith ofEntry (venueOf w) x n) (record { answer = refuses 16; venue = venueOf w })
+stepInWith ofEntry w x n = pick (isBook w) (stepWith ofEntry (venueOf w) x n) (noVenue w)
