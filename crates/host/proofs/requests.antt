@@ -2,3 +2,4 @@
 pub mod FillLaws
 pub mod FallingAgainLaws
 pub mod OwnerLaws
+pub mod FullBookLaws

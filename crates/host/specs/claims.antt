@@ -6,3 +6,4 @@ pub mod HostDays
 pub mod HostFill
 pub mod HostFallingAgain
 pub mod HostOwners
+pub mod HostFullBook

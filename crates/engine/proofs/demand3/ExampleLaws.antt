@@ -1,4 +1,4 @@
--- The twelve sums, the one day and the slides of document 01, a day of market orders, one at a step of 50, days of falls, entries with bad codes, questions whether an entry would fill and days of firms, by computation. Assumes nothing.
+-- The twelve sums, the one day and the slides of document 01, a day of market orders, one at a step of 50, days of falls, entries with bad codes, questions whether an entry would fill, days of firms and full books, by computation. Assumes nothing.
 use mathlib.Core.Path.{refl}
 use Rattle.numbers.specs.Tests
 use Rattle.numbers.specs.SevenBit
@@ -18,7 +18,7 @@ use Rattle.engine.specs.rules.Refusals
 use Rattle.engine.specs.rules.Run
 use Rattle.engine.specs.rules.Fill
 use Rattle.engine.specs.claims.Account
-use Rattle.engine.specs.claims.Examples.{TwelveSums, HalfCentSums, Played, FirmsPlayedAtBoth, CodesInOrder, FillsTold, OtherSteps}
+use Rattle.engine.specs.claims.Examples.{TwelveSums, HalfCentSums, Played, FirmsPlayedAtBoth, FullBookPlayedAtBoth, CodesInOrder, FillsTold, OtherSteps}
 
 pub twelve-sums : TwelveSums
 unfolding Prices.permitted Restriction.triggers SevenBit.byteCount SevenBit.bytesOf SevenBit.groups Tests.pick
@@ -37,6 +37,11 @@ pub firms-played : FirmsPlayedAtBoth
 unfolding Tests.pick Tests.every Prices.isStep Prices.legal Prices.isBid Prices.permitted Restriction.triggers Restriction.phaseAfterTape Restriction.phaseAfterDayEnd Restriction.restrictionOn Orders.find Orders.ifSame Orders.restingShares Orders.without Orders.insert Matching.reaches Matching.better Matching.betterOf Matching.bestFrom Matching.best Matching.counterparty Matching.execution Matching.afterTrade Matching.trading Matching.withdrawing Matching.sameOwner Matching.meeting Matching.matchingWith Matching.matchingUpTo Matching.matching order-conditions.idsRise order-conditions.stampsDiffer order-conditions.soundOrder Market.restricted Market.permittedNow Working.limitOf Working.followsBid Working.lifeOf Working.workingPrice Working.orderOf Working.remainder Working.afterRemainder Working.work Pass.displayedClear Pass.moveDown Pass.slideOnce Pass.slideDown Pass.maySlide Pass.moveOf Pass.afterMove Pass.passOne Pass.passOver Venue.opened Venue.entering Venue.effectOfEntry Venue.effectOfCancel Venue.thePass Venue.restrictionReport Venue.effectOfDayEnd Venue.effectOf Sound.sound Refusals.refuseUnless Refusals.firstOf Refusals.refusalOfTerms Refusals.refusalOfCodes Refusals.refusalOfOwner Refusals.refusalOfPlace Refusals.refusalOfEntry Refusals.rests Refusals.refusalOfKind Refusals.refusal Run.stepUnless Run.step Run.run Account.setAt
 firms-played =
     (record { entryMeets = refl; leftResting = refl; passMeets = refl; badOwners = refl; behindStays = refl; immediate = refl; optedOut = refl; market = refl; nobodys = refl; accountOfList = (refl, refl) }, (record { entryMeets = refl; leftResting = refl; passMeets = refl; badOwners = refl; behindStays = refl; immediate = refl; optedOut = refl; market = refl; nobodys = refl; accountOfList = (refl, refl) }, tt))
+
+pub full-book-played : FullBookPlayedAtBoth
+unfolding Tests.pick Tests.every Prices.isStep Prices.legal Prices.isBid Prices.permitted Restriction.triggers Restriction.phaseAfterTape Restriction.phaseAfterDayEnd Restriction.restrictionOn Orders.find Orders.ifSame Orders.restingShares Orders.without Orders.insert Matching.reaches Matching.better Matching.betterOf Matching.bestFrom Matching.best Matching.counterparty Matching.execution Matching.afterTrade Matching.trading Matching.withdrawing Matching.sameOwner Matching.meeting Matching.matchingWith Matching.matchingUpTo Matching.matching order-conditions.idsRise order-conditions.stampsDiffer order-conditions.soundOrder Market.restricted Market.permittedNow Working.limitOf Working.followsBid Working.lifeOf Working.workingPrice Working.orderOf Working.remainder Working.afterRemainder Working.work Pass.displayedClear Pass.moveDown Pass.slideOnce Pass.slideDown Pass.maySlide Pass.moveOf Pass.afterMove Pass.passOne Pass.passOver Venue.opened Venue.entering Venue.effectOfEntry Venue.effectOfCancel Venue.thePass Venue.restrictionReport Venue.effectOfDayEnd Venue.effectOf Sound.sound Refusals.refuseUnless Refusals.firstOf Refusals.refusalOfTerms Refusals.refusalOfCodes Refusals.refusalOfOwner Refusals.refusalOfPlace Refusals.refusalOfEntry Refusals.rests Refusals.refusalOfKind Refusals.refusal Run.stepUnless Run.step Run.run Account.setAt
+full-book-played =
+    (record { handled = refl; byTerms = refl; withABid = refl; withoutABid = refl; notRestricted = refl; ofFirms = refl }, (record { handled = refl; byTerms = refl; withABid = refl; withoutABid = refl; notRestricted = refl; ofFirms = refl }, tt))
 
 pub codes-in-order : CodesInOrder
 unfolding Tests.pick Tests.every Prices.isStep Prices.legal Prices.isBid order-conditions.idsRise order-conditions.stampsDiffer Venue.opened Sound.sound Refusals.refuseUnless Refusals.firstOf Refusals.refusalOfTerms Refusals.refusalOfCodes Refusals.refusalOfPlace Refusals.refusalOfEntry Refusals.refusalOfKind Refusals.refusal Run.stepUnless Run.step Run.run

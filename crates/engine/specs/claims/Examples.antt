@@ -1,5 +1,5 @@
--- Document 01, "Twelve sums, and one day", a day of market orders, one at a step of 50, days of falls, entries with bad codes, questions whether an entry would fill and days of firms, as statements about the definitions. Assumes nothing.
-use Prim.Native.Nat.{ℕ}
+-- Document 01, "Twelve sums, and one day", a day of market orders, one at a step of 50, days of falls, entries with bad codes, questions whether an entry would fill, days of firms and full books, as statements about the definitions. Assumes nothing.
+use Prim.Native.Nat.{ℕ, zero, suc, _+_}
 use mathlib.Core.Path.{_≡_}
 use mathlib.Core.Bool.{Bool, true, false, not}
 use mathlib.Core.List.{List, [], _∷_, map, foldl}
@@ -296,6 +296,70 @@ pub record FirmsPlayed (s : ℕ) : Type 0 where
 
 abbrev pub FirmsPlayedAtBoth : Type 0
 FirmsPlayedAtBoth = All FirmsPlayed (100 ∷ 50 ∷ [])
+
+-- a full book (No. 8): n buys of 1 share at 100, all of one owner, rest under the ids and stamps from i on, as after their n entries
+abbrev pub buysFrom : ℕ → ℕ → ℕ → List Order
+buysFrom owner i zero = []
+buysFrom owner i (suc n) =
+    record {
+      id = i;
+      mark = 0;
+      limit = 100;
+      shares = 1;
+      show = 1;
+      life = 0;
+      slide = 0;
+      stamp = i;
+      price = 100;
+      «entry_bid» = 0;
+      adjusted = false;
+      used = false;
+      clear = true;
+      market = false;
+      owner = owner;
+    }
+    ∷ buysFrom owner (i + 1) n
+
+-- 256 of them, in a market
+abbrev pub fullVenue : ℕ → ℕ → ℕ → ℕ → Venue
+fullVenue s phase best owner =
+    record {
+      market = record { close = 100_000; phase = phase; bid = best; step = s };
+      orders = buysFrom owner 1 256;
+      lastId = 256;
+      lastStamp = 256;
+      acceptedEvents = 256;
+    }
+
+abbrev pub answersFrom : Venue → List Event → List (Outcome (List Report))
+answersFrom v es = map (λ (x : Answered). x .answer) ((run v (map callOf es)) .answered)
+
+-- an order of 1 share, displayed, without a slide
+abbrev pub oneShare : ℕ → ℕ → ℕ → ℕ → Event
+oneShare id mark price life = entryOf id mark price 1 1 life 0
+
+pub record FullBookPlayed (s : ℕ) : Type 0 where
+  pub handled :
+      answersFrom (fullVenue s 0 0 0) (entryOf 257 0 100 5 1 1 0 ∷ entryOf 258 0 100 5 1 0 0 ∷ oneShare 259 1 0 0 ∷ [])
+      ≡ gives (accepted 257 257 100 ∷ cancelled 257 5 2 ∷ []) ∷ refuses 7 ∷ gives (accepted 259 258 1 ∷ tradeOf 1 259 100 1 ∷ []) ∷ []
+  -- by its terms and not by what would become of it: one that would fill in full meets 7, and the same as immediate or cancel makes room for it; 6 comes first
+  pub byTerms :
+      answersFrom (fullVenue s 0 0 0) (oneShare 257 1 100 0 ∷ oneShare 256 1 100 0 ∷ oneShare 257 1 100 1 ∷ oneShare 258 0 100 0 ∷ oneShare 259 0 100 0 ∷ [])
+      ≡ refuses 7 ∷ refuses 6 ∷ gives (accepted 257 257 100 ∷ tradeOf 1 257 100 1 ∷ []) ∷ gives (accepted 258 258 100 ∷ []) ∷ refuses 7 ∷ []
+  -- restricted, with a bid: an opt-out that would be adjusted and a market short meet 7, an immediate market short and one marked exempt don't
+  pub withABid :
+      answersFrom (fullVenue s 1 50 0) (entryOf 257 2 40 1 1 0 3 ∷ oneShare 257 2 0 0 ∷ oneShare 257 2 0 1 ∷ oneShare 258 3 0 0 ∷ [])
+      ≡ refuses 7 ∷ refuses 7 ∷ gives (accepted 257 257 51 ∷ tradeOf 1 257 100 1 ∷ []) ∷ gives (accepted 258 258 1 ∷ tradeOf 2 258 100 1 ∷ []) ∷ []
+  -- with no bid, or not restricted, a market short is taken as immediate or cancel
+  pub withoutABid : answersFrom (fullVenue s 2 0 0) (oneShare 257 2 0 0 ∷ []) ≡ gives (accepted 257 257 1 ∷ tradeOf 1 257 100 1 ∷ []) ∷ []
+  pub notRestricted : answersFrom (fullVenue s 0 50 0) (oneShare 257 2 0 0 ∷ []) ≡ gives (accepted 257 257 1 ∷ tradeOf 1 257 100 1 ∷ []) ∷ []
+  -- kind 6: 21 comes first, and 7 meets one whose owner's orders would go
+  pub ofFirms :
+      answersFrom (fullVenue s 0 0 7) (ownedOf 257 1 100 1 1 0 0 0 ∷ ownedOf 257 1 100 1 1 0 0 7 ∷ ownedOf 257 1 100 1 1 0 0 8 ∷ ownedOf 257 1 100 1 1 1 0 8 ∷ [])
+      ≡ refuses 21 ∷ refuses 7 ∷ refuses 7 ∷ gives (accepted 257 257 100 ∷ tradeOf 1 257 100 1 ∷ []) ∷ []
+
+abbrev pub FullBookPlayedAtBoth : Type 0
+FullBookPlayedAtBoth = All FullBookPlayed (100 ∷ 50 ∷ [])
 
 -- other steps than 50 and 100 (No. 2), beside a close, a bid and a price that are refused at every step: "refused with 17, before the close or price is looked
 -- at"; in a venue record whose close is legal by itself "it is a broken condition"

@@ -1,0 +1,17 @@
+-- What is claimed of No. 8, a full book still trades, as a host sees it: bytes, numbers and words. Assumes nothing.
+use Prim.Native.Nat.{ℕ}
+use mathlib.Core.Path.{_≡_}
+use mathlib.Core.List.{List}
+use Rattle.numbers.specs.Answers.{gives, Read}
+use Rattle.engine.specs.declared.Event.{Event}
+use Rattle.engine.specs.rules.Records.{recordAt}
+use Rattle.engine.specs.claims.FullBook.{FullBookTradesInCall}
+use Rattle.host.specs.rules.Host.{outcomeOf}
+use Rattle.host.specs.claims.Calls.{HostApplied}
+
+-- a call of venue_apply on any words whose record reads as an event: against the place of before, 7 is lifted from the entries that need no place and from
+-- nothing else; what was accepted before gets the same number and report bytes and leaves the same venue; an entry that needs no place takes none
+abbrev pub FullBooksTradeForHosts : Type 0
+FullBooksTradeForHosts =
+    (w bytes b : List ℕ) (answer : ℕ) (w′ b′ : List ℕ) → HostApplied w bytes b answer w′ b′ →
+    (r : Read Event) → recordAt bytes 0 ≡ gives r → FullBookTradesInCall w (r .value) b (outcomeOf answer) w′ b′
