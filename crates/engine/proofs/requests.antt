@@ -8,3 +8,4 @@ pub mod FillLaws
 pub mod FallingAgainLaws
 pub mod OwnerLaws
 pub mod FullBookLaws
+pub mod FullBookReachedLaws

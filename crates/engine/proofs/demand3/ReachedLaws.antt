@@ -39,7 +39,7 @@ unfolding run step
 run-sound [] v g = g
 run-sound (c ∷ cs) v g = run-sound cs _ (stepUnless-sound _ v (c .event) (c .buffer) (refusal-known v (c .event) (c .buffer)) g)
 
-opened-sound : (s close : ℕ) → T (isStep s) → T (legal s close) → SoundVenue (opened s close)
+pub opened-sound : (s close : ℕ) → T (isStep s) → T (legal s close) → SoundVenue (opened s close)
 unfolding opened
 opened-sound s close i t =
     record {

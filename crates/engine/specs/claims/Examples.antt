@@ -297,10 +297,9 @@ pub record FirmsPlayed (s : ℕ) : Type 0 where
 abbrev pub FirmsPlayedAtBoth : Type 0
 FirmsPlayedAtBoth = All FirmsPlayed (100 ∷ 50 ∷ [])
 
--- a full book (No. 8): n buys of 1 share at 100, all of one owner, rest under the ids and stamps from i on, as after their n entries
-abbrev pub buysFrom : ℕ → ℕ → ℕ → List Order
-buysFrom owner i zero = []
-buysFrom owner i (suc n) =
+-- a full book (No. 8): n buys of 1 share at 100, all of one owner, under the ids and stamps from i on
+abbrev pub buyOf : ℕ → ℕ → Order
+buyOf owner i =
     record {
       id = i;
       mark = 0;
@@ -318,18 +317,32 @@ buysFrom owner i (suc n) =
       market = false;
       owner = owner;
     }
-    ∷ buysFrom owner (i + 1) n
 
--- 256 of them, in a market
-abbrev pub fullVenue : ℕ → ℕ → ℕ → ℕ → Venue
-fullVenue s phase best owner =
+abbrev pub buysFrom : ℕ → ℕ → ℕ → List Order
+buysFrom owner i zero = []
+buysFrom owner i (suc n) = buyOf owner i ∷ buysFrom owner (i + 1) n
+
+-- n of them rest in a market
+abbrev pub venueOfBuys : ℕ → ℕ → ℕ → ℕ → ℕ → Venue
+venueOfBuys n s phase best owner =
     record {
       market = record { close = 100_000; phase = phase; bid = best; step = s };
-      orders = buysFrom owner 1 256;
-      lastId = 256;
-      lastStamp = 256;
-      acceptedEvents = 256;
+      orders = buysFrom owner 1 n;
+      lastId = n;
+      lastStamp = n;
+      acceptedEvents = n;
     }
+
+abbrev pub fullVenue : ℕ → ℕ → ℕ → ℕ → Venue
+fullVenue = venueOfBuys 256
+
+-- their entries, of kind 1, lead there from open: without a restriction and a bid a full book is reached
+abbrev pub buyEntriesFrom : ℕ → ℕ → List Event
+buyEntriesFrom i zero = []
+buyEntriesFrom i (suc n) = entryOf i 0 100 1 1 0 0 ∷ buyEntriesFrom (i + 1) n
+
+abbrev pub FullBookReached : Type 0
+FullBookReached = All (λ (s : ℕ). venueAfterAt s (buyEntriesFrom 1 256) ≡ fullVenue s 0 0 0) (100 ∷ 50 ∷ [])
 
 abbrev pub answersFrom : Venue → List Event → List (Outcome (List Report))
 answersFrom v es = map (λ (x : Answered). x .answer) ((run v (map callOf es)) .answered)
