@@ -200,7 +200,7 @@ impl Venue {
 
     /// What is looked at first in an entry: 3, 4, and 18 for the mark, "in the
     /// place where 5 stands". And "refusal 3 no longer meets an entry price of
-    /// 0", the others do (F1.6).
+    /// 0", the others do (F1.6); of 7 see `needs_place`.
     pub(super) fn refuse_asked(&self, asked: &Question) -> Result<(), Refusal> {
         let shares = (1..=MOST_SHARES).contains(&asked.shares);
         let price = asked.is_market() || is_legal(self.step, asked.price);
