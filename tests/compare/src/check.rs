@@ -170,7 +170,8 @@ impl Checked {
     ) -> Result<(), Fault> {
         let (before, after) = (&self.before, &self.venue);
         conditions::check(before, event, answer)?;
-        full_books::check(before, event, buffer, answer, after)?;
+        let with_room = full_books::check(before, event, buffer, answer, after)?;
+        counts.full_books.check(with_room);
         by_limits::check(before, event, buffer, answer, after)?;
         phase_table::check(before, event, buffer, answer, after)?;
         let as_before = matching::check(before, event, answer, after)?;

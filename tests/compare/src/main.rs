@@ -37,7 +37,11 @@ mod fill_vectors;
 mod firm_days;
 mod firms;
 mod fronts;
+mod full_book_counts;
+mod full_book_events;
 mod full_books;
+#[cfg(test)]
+mod full_days;
 #[cfg(test)]
 mod half_cent_days;
 mod half_cents;
