@@ -137,7 +137,7 @@ const REFUSED: &str = "refused with 7";
 const WOULD: &str = "of these would have";
 const MEETS: &str = "an order let in";
 const FREED: &str = "the book behind it";
-const STANDS: &str = "accepted and refused";
+const STANDS: &str = "both, by the venue";
 
 const KINDS: [Kind; 58] = [
     (IMMEDIATE, "buys", |it| it.is_immediate() && it.has_mark(0)),
@@ -171,13 +171,13 @@ const KINDS: [Kind; 58] = [
     (MARKET, "free shorts with no bid", |it| {
         it.is_market(0) && it.has_mark(2) && !it.is_restricted() && !it.has_bid()
     }),
-    (MARKET, "with a bid", |it| {
+    (MARKET, "free shorts with a bid", |it| {
         it.is_market(0) && it.has_mark(2) && !it.is_restricted() && it.has_bid()
     }),
     (MARKET, "restricted shorts with no bid", |it| {
         it.is_market(0) && it.is_restricted()
     }),
-    (MARKET, "of these opt-outs", |it| {
+    (MARKET, "restricted opt-outs with no bid", |it| {
         it.is_market(0) && it.is_restricted() && it.is_opt_out()
     }),
     (MARKET, "exempts", |it| it.is_market(0) && it.has_mark(3)),
@@ -195,7 +195,7 @@ const KINDS: [Kind; 58] = [
     (BOTH, "restricted shorts with no bid", |it| {
         it.is_market(1) && it.is_restricted() && !it.has_bid()
     }),
-    (BOTH, "with a bid", |it| {
+    (BOTH, "restricted shorts with a bid", |it| {
         it.is_market(1) && it.is_restricted() && it.has_bid()
     }),
     (BOTH, "exempts", |it| it.is_market(1) && it.has_mark(3)),
@@ -262,22 +262,28 @@ const KINDS: [Kind; 58] = [
     }),
     (FREED, "has one place", |it| it.places_freed() == 1),
     (FREED, "is empty", |it| it.places_freed() == 256),
-    (STANDS, "from open", |it| it.from_open && it.is_accepted()),
-    (STANDS, "refused", |it| it.from_open && it.is_refused()),
-    (STANDS, "on made-up records", |it| {
+    (STANDS, "accepted from open", |it| {
+        it.from_open && it.is_accepted()
+    }),
+    (STANDS, "refused from open", |it| {
+        it.from_open && it.is_refused()
+    }),
+    (STANDS, "accepted on made-up records", |it| {
         !it.from_open && it.is_accepted()
     }),
-    (STANDS, "refused", |it| !it.from_open && it.is_refused()),
-    (STANDS, "in phase 2", |it| {
+    (STANDS, "refused on made-up records", |it| {
+        !it.from_open && it.is_refused()
+    }),
+    (STANDS, "accepted in phase 2", |it| {
         it.before.phase == 2 && it.is_accepted()
     }),
-    (STANDS, "refused", |it| {
+    (STANDS, "refused in phase 2", |it| {
         it.before.phase == 2 && it.is_refused()
     }),
 ];
 
 /// Entries with one place left.
-const ONE_LEFT: [&str; 3] = ["takes it", "is immediate", "is filled"];
+const ONE_LEFT: [&str; 3] = ["takes it", "is immediate", "trades or is cancelled"];
 
 #[derive(Default)]
 pub struct FullBooks {

@@ -233,7 +233,10 @@ mod tests {
         for at in 0..256 {
             let changed = |after: &mut Venue| after.orders[at].shares = 2;
             assert!(let_in(&right, changed).is_err());
-            assert!(let_in(&right, |after| drop(after.orders.remove(at))).is_err());
+            let gone = |after: &mut Venue| {
+                after.orders.remove(at);
+            };
+            assert!(let_in(&right, gone).is_err());
         }
     }
 
