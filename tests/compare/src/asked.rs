@@ -61,7 +61,7 @@ fn has_bad_mark(asked: &Question) -> bool {
 /// The book before an entry: whether the entry's owner has orders there, so that a yes may
 /// miss, and whether 256 orders rest.
 #[derive(Clone, Copy)]
-pub struct Around {
+pub struct BookBefore {
     pub owner_rests: bool,
     pub full_book: bool,
 }
@@ -69,7 +69,7 @@ pub struct Around {
 /// A yes or no, held against an accepted entry: whether it was filled.
 #[derive(Clone, Copy)]
 pub struct Held {
-    pub around: Around,
+    pub book: BookBefore,
     pub yes: bool,
     pub filled: bool,
 }
@@ -199,10 +199,10 @@ impl Asked {
     /// Takes the yes or no that was held against an accepted entry.
     pub fn hold(&mut self, venue: &Venue, held: Held) {
         let counts = self.at_step(venue);
-        if held.around.full_book {
+        if held.book.full_book {
             counts.full_book[usize::from(held.yes)] += 1;
         }
-        match (held.around.owner_rests, held.yes, held.filled) {
+        match (held.book.owner_rests, held.yes, held.filled) {
             (false, yes, _) => counts.held[usize::from(yes)] += 1,
             (true, false, _) => counts.own[0] += 1,
             (true, true, true) => counts.own[1] += 1,

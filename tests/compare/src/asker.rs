@@ -1,6 +1,6 @@
 //! Questions of No. 4 of document 02 to both sides, which change no word.
 
-use crate::asked::Around;
+use crate::asked::BookBefore;
 use crate::compare::same;
 use crate::counts::Counts;
 use crate::engine;
@@ -45,17 +45,17 @@ pub fn ask_any(sides: &mut Sides, rng: &mut Rng, counts: &mut Counts) -> Result<
 /// meets.
 pub struct Pending {
     entry: Entry,
-    around: Around,
+    book: BookBefore,
     answer: u32,
 }
 
 /// Asks for an entry.
 pub fn ask_for(sides: &mut Sides, entry: Entry, counts: &mut Counts) -> Result<Pending, Fault> {
-    let around = fronts::around(&entry, &sides.venue);
+    let book = fronts::book_before(&entry, &sides.venue);
     let answer = ask(sides, &entry.question(), counts)?;
     Ok(Pending {
         entry,
-        around,
+        book,
         answer,
     })
 }
@@ -75,7 +75,7 @@ pub fn hold(
         Err(refusal) => Err(*refusal),
     };
     let answer = engine::read_fill_answer(pending.answer);
-    if let Some(held) = fronts::hold(&pending.entry, pending.around, answer, reports)? {
+    if let Some(held) = fronts::hold(&pending.entry, pending.book, answer, reports)? {
         counts.asked.hold(&sides.venue, held);
     }
     Ok(())

@@ -150,8 +150,8 @@ impl Checked {
         };
         let answer = self.ask(&entry.question(), counts)?;
         let answer = answer.map(|fill| fill.in_full).map_err(Refusal::number);
-        let around = fronts::around(entry, &self.before);
-        if let Some(held) = fronts::hold(entry, around, answer, entered)? {
+        let book = fronts::book_before(entry, &self.before);
+        if let Some(held) = fronts::hold(entry, book, answer, entered)? {
             counts.asked.hold(&self.before, held);
         }
         Ok(())

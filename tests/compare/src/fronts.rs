@@ -2,7 +2,7 @@
 //! an entry says of the answer that was given before it. No formula here but the
 //! record check is the model's.
 
-use crate::asked::{Around, Held};
+use crate::asked::{BookBefore, Held};
 use crate::conditions::{refusal_of, Condition, CONDITIONS};
 use crate::full_books::is_full;
 use crate::model::{Entry, Fill, Order, Question, Refusal, Report, Venue};
@@ -137,10 +137,10 @@ pub fn check(asked: &Question, venue: &Venue, answer: Result<Fill, Refusal>) -> 
 
 /// What the book before an entry is to it. "The fill question has owner 0", so it counts
 /// own orders that the entry would cancel.
-pub fn around(entry: &Entry, venue: &Venue) -> Around {
+pub fn book_before(entry: &Entry, venue: &Venue) -> BookBefore {
     let mut owners = venue.orders.iter().map(|order| order.owner);
     let is_own = |own| owners.any(|owner| owner == own);
-    Around {
+    BookBefore {
         owner_rests: entry.owner.is_some_and(is_own),
         full_book: is_full(venue),
     }
@@ -153,21 +153,21 @@ pub fn around(entry: &Entry, venue: &Venue) -> Around {
 /// order. Gives what was held against an accepted one.
 pub fn hold(
     entry: &Entry,
-    around: Around,
+    book: BookBefore,
     answer: Result<bool, u32>,
     entered: Result<&[Report], Refusal>,
 ) -> Result<Option<Held>, Fault> {
     let filled = entered.map(|reports| executed(entry.id, reports) == entry.shares);
     let holds = match entered {
         Ok(_) => {
-            let may_miss = around.owner_rests && answer == Ok(true);
+            let may_miss = book.owner_rests && answer == Ok(true);
             answer == filled.map_err(Refusal::number) || may_miss
         }
         Err(Refusal::ShortBuffer | Refusal::Spent) => answer != Err(16),
         Err(
             refusal @ (Refusal::VenueRecord | Refusal::Price | Refusal::Shares | Refusal::Mark),
         ) => answer == Err(refusal.number()),
-        Err(Refusal::Full) => answer.is_ok() && around.full_book && entry.life == 0,
+        Err(Refusal::Full) => answer.is_ok() && book.full_book && entry.life == 0,
         Err(_) => answer.is_ok(),
     };
     ensure(
@@ -175,11 +175,7 @@ pub fn hold(
         &format!("an answer against its entry: {answer:?} {entry:?} {entered:?}"),
     )?;
     Ok(match (answer, filled) {
-        (Ok(yes), Ok(filled)) => Some(Held {
-            around,
-            yes,
-            filled,
-        }),
+        (Ok(yes), Ok(filled)) => Some(Held { book, yes, filled }),
         _ => None,
     })
 }
@@ -413,7 +409,7 @@ mod tests {
     }
 
     /// A full book of others' orders.
-    const FULL: Around = Around {
+    const FULL: BookBefore = BookBefore {
         owner_rests: false,
         full_book: true,
     };
@@ -447,17 +443,17 @@ mod tests {
     /// an immediate one nowhere.
     #[test]
     fn a_7_after_an_answer() {
-        let room = Around {
+        let room = BookBefore {
             full_book: false,
             ..FULL
         };
         for yes in [true, false] {
-            let held = |life, around| {
+            let held = |life, book| {
                 let entry = Entry {
                     life,
                     ..entry_of(&BUY)
                 };
-                hold(&entry, around, Ok(yes), Err(Refusal::Full)).is_ok()
+                hold(&entry, book, Ok(yes), Err(Refusal::Full)).is_ok()
             };
             assert!(held(0, FULL) && !held(1, FULL) && !held(0, room));
         }
@@ -477,11 +473,11 @@ mod tests {
             shares: 5,
         }];
         for own in [true, false] {
-            let around = Around {
+            let book = BookBefore {
                 owner_rests: own,
                 ..FULL
             };
-            let hold = |answer, entered| hold(&entry, around, answer, entered).map(|_| ());
+            let hold = |answer, entered| hold(&entry, book, answer, entered).map(|_| ());
             assert_eq!(hold(Ok(true), Ok(&all)), Ok(()));
             assert_eq!(hold(Ok(false), Ok(&[])), Ok(()));
             assert!(hold(Ok(false), Ok(&all)).is_err());

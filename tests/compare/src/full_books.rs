@@ -1,7 +1,7 @@
 //! No. 8 of document 02 a second time: which orders need a place; that the refusal of an
 //! entry is the one from before, but for those that need none; and that an order which is
-//! let into a full book does what it does where there is room. No formula here is the
-//! model's.
+//! let into a full book does what it does where there is room, which the model plays. No
+//! formula here is the model's.
 
 use crate::conditions::{condition, refusal_of, Condition, CONDITIONS};
 use crate::model::{Entry, Event, Order, RecordCheck, Refusal, Report, Venue};
@@ -78,10 +78,10 @@ fn check_refusal(before: &Venue, entry: &Entry, found: Option<u32>) -> Result<()
 /// is cancelled last (cause 2).
 fn check_remainder(entry: &Entry, reports: &[Report], after: &Venue) -> Result<(), Fault> {
     let executed = reports.iter().map(|report| match *report {
-        Report::Executed { shares, .. } => shares,
+        Report::Executed { shares, .. } => u64::from(shares),
         _ => 0,
     });
-    let left = entry.shares - executed.sum::<u32>();
+    let left = u64::from(entry.shares).saturating_sub(executed.sum()) as u32;
     let cancelled = Report::Cancelled {
         id: entry.id,
         shares: left,
