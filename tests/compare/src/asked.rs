@@ -58,11 +58,18 @@ fn has_bad_mark(asked: &Question) -> bool {
     asked.mark > 3
 }
 
-/// A yes or no, held against an accepted entry: whether it was filled, and whether its
-/// owner has orders in the book, so that a yes may miss.
+/// The book before an entry: whether the entry's owner has orders there, so that a yes may
+/// miss, and whether 256 orders rest.
+#[derive(Clone, Copy)]
+pub struct BookBefore {
+    pub owner_rests: bool,
+    pub full_book: bool,
+}
+
+/// A yes or no, held against an accepted entry: whether it was filled.
 #[derive(Clone, Copy)]
 pub struct Held {
-    pub owner_rests: bool,
+    pub book: BookBefore,
     pub yes: bool,
     pub filled: bool,
 }
@@ -88,6 +95,8 @@ struct AtStep {
     /// Entries whose owner has orders in the book: no, yes and filled, yes and not
     /// filled.
     own: [u64; 3],
+    /// Entries that were let into a full book.
+    full_book: [u64; 2],
     /// Yes by the first of several orders, after some, by all orders of the book.
     read: [u64; 3],
     /// Yes with no share to spare; no with one share missing, and on an empty book.
@@ -156,6 +165,7 @@ impl AtStep {
             (missed, "yes and not filled"),
         ];
         lines.push(("an entry of a firm with orders", own.to_vec()));
+        lines.push(("an entry in a full book", by_answer(self.full_book)));
         lines
     }
 }
@@ -189,7 +199,10 @@ impl Asked {
     /// Takes the yes or no that was held against an accepted entry.
     pub fn hold(&mut self, venue: &Venue, held: Held) {
         let counts = self.at_step(venue);
-        match (held.owner_rests, held.yes, held.filled) {
+        if held.book.full_book {
+            counts.full_book[usize::from(held.yes)] += 1;
+        }
+        match (held.book.owner_rests, held.yes, held.filled) {
             (false, yes, _) => counts.held[usize::from(yes)] += 1,
             (true, false, _) => counts.own[0] += 1,
             (true, true, true) => counts.own[1] += 1,

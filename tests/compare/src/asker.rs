@@ -1,5 +1,6 @@
 //! Questions of No. 4 of document 02 to both sides, which change no word.
 
+use crate::asked::BookBefore;
 use crate::compare::same;
 use crate::counts::Counts;
 use crate::engine;
@@ -40,21 +41,21 @@ pub fn ask_any(sides: &mut Sides, rng: &mut Rng, counts: &mut Counts) -> Result<
     Ok(())
 }
 
-/// An entry that was asked for and not yet sent: the engine's answer, and whether its
-/// owner has orders in the book.
+/// An entry that was asked for and not yet sent: the engine's answer, and the book that it
+/// meets.
 pub struct Pending {
     entry: Entry,
-    owner_rests: bool,
+    book: BookBefore,
     answer: u32,
 }
 
 /// Asks for an entry.
 pub fn ask_for(sides: &mut Sides, entry: Entry, counts: &mut Counts) -> Result<Pending, Fault> {
-    let owner_rests = fronts::owner_rests(&entry, &sides.venue);
+    let book = fronts::book_before(&entry, &sides.venue);
     let answer = ask(sides, &entry.question(), counts)?;
     Ok(Pending {
         entry,
-        owner_rests,
+        book,
         answer,
     })
 }
@@ -74,7 +75,7 @@ pub fn hold(
         Err(refusal) => Err(*refusal),
     };
     let answer = engine::read_fill_answer(pending.answer);
-    if let Some(held) = fronts::hold(&pending.entry, pending.owner_rests, answer, reports)? {
+    if let Some(held) = fronts::hold(&pending.entry, pending.book, answer, reports)? {
         counts.asked.hold(&sides.venue, held);
     }
     Ok(())

@@ -1,5 +1,6 @@
 //! No. 1 of document 02 in document 01's words: each event on a venue with
-//! market orders does what another event does on a venue without.
+//! market orders does what another event does on a venue without. One that is taken as
+//! immediate or cancel becomes an entry that is, so in a full book neither meets 7 (No. 8).
 
 use crate::model::{
     Entry, Event, Order, RecordCheck, Refusal, Report, Venue, BUY, HIGHEST, LOWEST, SHORT,

@@ -9,6 +9,7 @@ use crate::counts::{Counts, Lent};
 use crate::document_01;
 use crate::firms::Firms;
 use crate::fronts;
+use crate::full_books;
 use crate::matching;
 use crate::model::{
     copy_out, depth, is_legal, permitted_price, read_record, watch_tape, write_record, Event, Fill,
@@ -149,8 +150,8 @@ impl Checked {
         };
         let answer = self.ask(&entry.question(), counts)?;
         let answer = answer.map(|fill| fill.in_full).map_err(Refusal::number);
-        let own = fronts::owner_rests(entry, &self.before);
-        if let Some(held) = fronts::hold(entry, own, answer, entered)? {
+        let book = fronts::book_before(entry, &self.before);
+        if let Some(held) = fronts::hold(entry, book, answer, entered)? {
             counts.asked.hold(&self.before, held);
         }
         Ok(())
@@ -158,7 +159,8 @@ impl Checked {
 
     /// An event on a sound record does what document 01 says without market orders
     /// and with its own step, by the same prices or by doubled ones; keeps to the
-    /// table of phases; and does what it does without owners.
+    /// table of phases; does what it does without owners; and in a full book does what it
+    /// does where there is room.
     fn check_otherwise(
         &self,
         event: &Event,
@@ -168,6 +170,8 @@ impl Checked {
     ) -> Result<(), Fault> {
         let (before, after) = (&self.before, &self.venue);
         conditions::check(before, event, answer)?;
+        let with_room = full_books::check(before, event, buffer, answer, after)?;
+        counts.full_books.check(with_room);
         by_limits::check(before, event, buffer, answer, after)?;
         phase_table::check(before, event, buffer, answer, after)?;
         let as_before = matching::check(before, event, answer, after)?;

@@ -14,6 +14,7 @@ use crate::applier::{Applied, Applier};
 use crate::asker::{self, Pending};
 use crate::counts::Counts;
 use crate::firms::Firms;
+use crate::full_books;
 use crate::model::{read_record, Event, Refusal, Report, Venue, LEAST_BUFFER};
 use crate::observe::Observer;
 use crate::replay::Replay;
@@ -74,15 +75,35 @@ impl Pair {
         let applied = applied.map_err(|fault| format!("{fault}\n  in {read:?}"))?;
         match (read, applied.answer) {
             (Err(refusal), _) => counts.refuse_record(refusal),
-            (Ok((event, _)), Err(refusal)) => counts.refuse(&before, &event, refusal),
+            (Ok((event, _)), Err(refusal)) => {
+                counts.refuse(&before, &event, refusal);
+                self.check_full(&before, &event, call.buffer, Err(refusal), counts)?;
+            }
             (Ok((event, _)), Ok(count)) => {
                 let reports = Report::read_all(&applied.bytes);
                 let reports = reports.map_err(|refusal| format!("reports: {refusal:?}"))?;
                 self.firms.take(&event, &applied.bytes)?;
                 counts.accept(&before, &event, count, &reports);
+                self.check_full(&before, &event, call.buffer, Ok(&reports), counts)?;
             }
         }
         Ok(applied)
+    }
+
+    /// What the engine answered to an entry, held against the rule for full books and
+    /// against the model where there is room.
+    fn check_full(
+        &self,
+        before: &Venue,
+        event: &Event,
+        buffer: usize,
+        answer: Result<&[Report], Refusal>,
+        counts: &mut Counts,
+    ) -> Result<(), Fault> {
+        let after = &self.sides.venue;
+        let with_room = full_books::check(before, event, buffer, answer, after)?;
+        counts.full_books.check(with_room);
+        Ok(())
     }
 
     /// Compares the calls that only observe, which keep every word.

@@ -2,6 +2,7 @@
 //! entry that breaks it: a second statement beside the model's. No formula here is
 //! the model's.
 
+use crate::full_books::{is_full, needs_place};
 use crate::model::{Entry, Event, Refusal, Report, Venue};
 use crate::price_rules::is_legal;
 use crate::sessions::{ensure, Fault};
@@ -27,7 +28,8 @@ pub const fn condition(refusal: u32, name: &'static str, breaks: Breaks) -> Cond
 /// "Entry then: 3 price not legal; 4 shares; 5 mark, show, life or slide; 6 id not
 /// above the last accepted id (0 never is); 7 if 256 orders rest." In the place of
 /// the 5, "in the order mark, show, life, slide code, slide on the wrong mark"; "an
-/// owner outside its range is 21, after the slide codes", which kind 1 has none of.
+/// owner outside its range is 21, after the slide codes", which kind 1 has none of. And
+/// "only the remaining orders meet 7": those that need a place.
 pub const CONDITIONS: [Condition; 10] = [
     condition(3, "price", |entry, venue| {
         entry.price != 0 && !is_legal(venue.step, entry.price)
@@ -46,7 +48,9 @@ pub const CONDITIONS: [Condition; 10] = [
         matches!(entry.owner, Some(0 | 65_536..))
     }),
     condition(6, "id", |entry, venue| entry.id <= venue.last_id),
-    condition(7, "full book", |_, venue| venue.orders.len() == 256),
+    condition(7, "full book", |entry, venue| {
+        is_full(venue) && needs_place(entry, venue)
+    }),
 ];
 
 /// Which of the conditions an entry breaks, by their places.

@@ -2,6 +2,7 @@
 
 use crate::asked::Asked;
 use crate::falls::Falls;
+use crate::full_book_counts::FullBooks;
 use crate::half_cents::HalfCents;
 use crate::market_orders::MarketOrders;
 #[cfg(feature = "engine")]
@@ -62,6 +63,7 @@ pub struct Counts {
     pub asked: Asked,
     pub falls: Falls,
     pub withdrawals: Withdrawals,
+    pub full_books: FullBooks,
     #[cfg(feature = "engine")]
     host: HostCounts,
 }
@@ -104,6 +106,7 @@ impl Counts {
         self.falls.start(&session.start);
         let from_open = session.kind.is_from_open();
         self.withdrawals.start(&session.start, from_open);
+        self.full_books.start(from_open);
     }
 
     /// A record that can't be read.
@@ -117,6 +120,7 @@ impl Counts {
         self.market_orders.refuse(event, refusal);
         self.half_cents.refuse(venue.step, event, refusal);
         self.refused_entries.refuse(venue, event, refusal);
+        self.full_books.refuse(venue, event, refusal);
     }
 
     /// An accepted event, with the venue before it, the byte count of its
@@ -127,6 +131,7 @@ impl Counts {
         self.half_cents.accept(before, event, reports);
         self.falls.accept(before, event, reports);
         self.withdrawals.accept(before, event, reports);
+        self.full_books.accept(before, event, reports);
         self.most_bytes = self.most_bytes.max(bytes);
         for report in reports {
             match report {
@@ -302,6 +307,7 @@ impl fmt::Display for Counts {
         writeln!(f, "{}", self.asked)?;
         writeln!(f, "{}", self.falls)?;
         writeln!(f, "{}", self.withdrawals)?;
+        writeln!(f, "{}", self.full_books)?;
         #[cfg(feature = "engine")]
         if self.host.copies.accepted > 0 {
             write!(f, "{}", self.host)?;

@@ -72,8 +72,8 @@ fn a_full_book_comes_after_the_owner() {
         "owned 257 0 90000 5 1 0 0 0",
         "owned 256 0 90000 5 1 0 0 65536",
         "owned 256 0 90000 5 1 0 0 9",
-        "owned 257 1 90000 5 1 1 0 9",
-        "entry 257 1 90000 5 1 1 0",
+        "owned 257 1 90000 5 1 0 0 9",
+        "entry 257 1 90000 5 1 0 0",
     ] {
         push_event(&mut input, event);
     }

@@ -2,8 +2,9 @@
 //! an entry says of the answer that was given before it. No formula here but the
 //! record check is the model's.
 
-use crate::asked::Held;
+use crate::asked::{BookBefore, Held};
 use crate::conditions::{refusal_of, Condition, CONDITIONS};
+use crate::full_books::is_full;
 use crate::model::{Entry, Fill, Order, Question, Refusal, Report, Venue};
 use crate::price_rules::permitted;
 use crate::sessions::{ensure, Fault};
@@ -134,35 +135,39 @@ pub fn check(asked: &Question, venue: &Venue, answer: Result<Fill, Refusal>) -> 
     Ok(())
 }
 
-/// Whether an entry's owner has orders in the book: "The fill question has owner 0", so
-/// it counts orders that the entry would cancel.
-pub fn owner_rests(entry: &Entry, venue: &Venue) -> bool {
+/// What the book before an entry is to it. "The fill question has owner 0", so it counts
+/// own orders that the entry would cancel.
+pub fn book_before(entry: &Entry, venue: &Venue) -> BookBefore {
     let mut owners = venue.orders.iter().map(|order| order.owner);
-    entry
-        .owner
-        .is_some_and(|own| owners.any(|owner| owner == own))
+    let is_own = |own| owners.any(|owner| owner == own);
+    BookBefore {
+        owner_rests: entry.owner.is_some_and(is_own),
+        full_book: is_full(venue),
+    }
 }
 
 /// Holds the yes or no, or the refusal's number, that was given just before an
 /// entry against what the entry got: "whether an entry would fill in full now". Of one
-/// whose owner has orders in the book, a no alone says something. Gives what was held
-/// against an accepted one.
+/// whose owner has orders in the book, a no alone says something. And "a full book [...]
+/// don't matter to it": 7 comes after a yes or a no, but not to an immediate or cancel
+/// order. Gives what was held against an accepted one.
 pub fn hold(
     entry: &Entry,
-    owner_rests: bool,
+    book: BookBefore,
     answer: Result<bool, u32>,
     entered: Result<&[Report], Refusal>,
 ) -> Result<Option<Held>, Fault> {
     let filled = entered.map(|reports| executed(entry.id, reports) == entry.shares);
     let holds = match entered {
         Ok(_) => {
-            let may_miss = owner_rests && answer == Ok(true);
+            let may_miss = book.owner_rests && answer == Ok(true);
             answer == filled.map_err(Refusal::number) || may_miss
         }
         Err(Refusal::ShortBuffer | Refusal::Spent) => answer != Err(16),
         Err(
             refusal @ (Refusal::VenueRecord | Refusal::Price | Refusal::Shares | Refusal::Mark),
         ) => answer == Err(refusal.number()),
+        Err(Refusal::Full) => answer.is_ok() && book.full_book && entry.life == 0,
         Err(_) => answer.is_ok(),
     };
     ensure(
@@ -170,11 +175,7 @@ pub fn hold(
         &format!("an answer against its entry: {answer:?} {entry:?} {entered:?}"),
     )?;
     Ok(match (answer, filled) {
-        (Ok(yes), Ok(filled)) => Some(Held {
-            owner_rests,
-            yes,
-            filled,
-        }),
+        (Ok(yes), Ok(filled)) => Some(Held { book, yes, filled }),
         _ => None,
     })
 }
@@ -227,7 +228,11 @@ mod tests {
             ("18 before 3", conditions(&[2, 0, 1])),
             ("no 3", conditions(&[1, 2])),
             ("no 4", conditions(&[0, 2])),
-            ("7 for a full book", conditions(&[0, 1, 2, 9])),
+            ("7 as in an entry", conditions(&[0, 1, 2, 9])),
+            (
+                "7 for a full book",
+                also(condition(7, "full book", |_, venue| is_full(venue))),
+            ),
             (
                 "3 for a market price",
                 also(condition(3, "market", |entry, _| entry.price == 0)),
@@ -403,6 +408,12 @@ mod tests {
         assert!(check(&BUY, &venue, Err(Refusal::Price)).is_err());
     }
 
+    /// A full book of others' orders.
+    const FULL: BookBefore = BookBefore {
+        owner_rests: false,
+        full_book: true,
+    };
+
     #[test]
     fn an_answer_that_its_entry_breaks_is_seen() {
         let entry = entry_of(&BUY);
@@ -412,7 +423,7 @@ mod tests {
             price: 90_000,
             shares,
         };
-        let hold = |answer, entered| hold(&entry, false, answer, entered).map(|_| ());
+        let hold = |answer, entered| hold(&entry, FULL, answer, entered).map(|_| ());
         let (all, some) = ([execution(2), execution(3)], [execution(4)]);
         for (yes, reports) in [(true, &all[..]), (false, &some), (false, &[])] {
             assert_eq!(hold(Ok(yes), Ok(reports)), Ok(()));
@@ -426,6 +437,26 @@ mod tests {
         assert!(hold(Err(7), Err(Refusal::Full)).is_err());
         assert_eq!(hold(Ok(false), Err(Refusal::Spent)), Ok(()));
         assert!(hold(Err(16), Err(Refusal::Spent)).is_err());
+    }
+
+    /// An order that isn't immediate meets 7 after a yes too; with room nobody does, and
+    /// an immediate one nowhere.
+    #[test]
+    fn a_7_after_an_answer() {
+        let room = BookBefore {
+            full_book: false,
+            ..FULL
+        };
+        for yes in [true, false] {
+            let held = |life, book| {
+                let entry = Entry {
+                    life,
+                    ..entry_of(&BUY)
+                };
+                hold(&entry, book, Ok(yes), Err(Refusal::Full)).is_ok()
+            };
+            assert!(held(0, FULL) && !held(1, FULL) && !held(0, room));
+        }
     }
 
     /// A yes may miss where own orders are in reach; a no may not.
@@ -442,7 +473,11 @@ mod tests {
             shares: 5,
         }];
         for own in [true, false] {
-            let hold = |answer, entered| hold(&entry, own, answer, entered).map(|_| ());
+            let book = BookBefore {
+                owner_rests: own,
+                ..FULL
+            };
+            let hold = |answer, entered| hold(&entry, book, answer, entered).map(|_| ());
             assert_eq!(hold(Ok(true), Ok(&all)), Ok(()));
             assert_eq!(hold(Ok(false), Ok(&[])), Ok(()));
             assert!(hold(Ok(false), Ok(&all)).is_err());

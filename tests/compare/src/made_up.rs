@@ -29,14 +29,15 @@ fn shuffle(rng: &mut Rng, numbers: &mut [u32]) {
 pub fn made_up(rng: &mut Rng, market: &Market) -> Venue {
     let most = PLACES as u32;
     let (few, some) = (rng.up_to(8), rng.up_to(most));
-    let count = rng.pick(&[few, few, few, some, most - 1, most, most]);
+    let count = rng.pick(&[few, few, few, some, most - 1, most, most, most]);
     let any_events = rng.between(1, MOST_EVENTS);
     let late = MOST_EVENTS - rng.up_to(3);
     let accepted = rng.pick(&[1, any_events, any_events, any_events, late]);
     let any_stamp = rng.between(count, most * accepted);
     let last_stamp = rng.pick(&[count, any_stamp, most * accepted]);
     let any_id = rng.between(count, u32::MAX);
-    let last_id = rng.pick(&[count, count + 3, any_id, u32::MAX - 2, u32::MAX]);
+    let highest = rng.pick(&[u32::MAX - 2, u32::MAX]);
+    let last_id = rng.pick(&[count, count + 3, any_id, any_id, any_id, highest]);
     let mut stamps = rising(rng, count, last_stamp);
     shuffle(rng, &mut stamps);
     let bid = market.bid(rng, 0);
@@ -44,7 +45,7 @@ pub fn made_up(rng: &mut Rng, market: &Market) -> Venue {
     Venue {
         step: market.ladder.step,
         close: market.close(rng),
-        phase: rng.pick(&[0, 1, 2, 2]),
+        phase: rng.pick(&[0, 1, 2, 2, 2]),
         bid,
         last_id,
         last_stamp,
@@ -91,6 +92,16 @@ pub fn sink_shorts(rng: &mut Rng, venue: &mut Venue, market: &Market) {
         order.price = market.ladder.price_of(rung);
         order.show = 0;
         order.slide = 0;
+    }
+}
+
+/// Makes all orders buys, or all of them long sells, of few shares, so that one entry may
+/// take the whole book.
+pub fn put_on_one_side(rng: &mut Rng, venue: &mut Venue) {
+    let mark = rng.up_to(1);
+    for order in &mut venue.orders {
+        (order.mark, order.slide, order.market) = (mark, 0, false);
+        order.shares = rng.between(1, 9);
     }
 }
 

@@ -1,4 +1,4 @@
-//! A second implementation of the venue of document 01 and of No. 1 to No. 7 of
+//! A second implementation of the venue of document 01 and of No. 1 to No. 8 of
 //! document 02, and its comparison with the proved engine. See README.md.
 
 mod account;
@@ -37,6 +37,11 @@ mod fill_vectors;
 mod firm_days;
 mod firms;
 mod fronts;
+mod full_book_counts;
+mod full_book_events;
+mod full_books;
+#[cfg(test)]
+mod full_days;
 #[cfg(test)]
 mod half_cent_days;
 mod half_cents;

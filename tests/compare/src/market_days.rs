@@ -249,9 +249,10 @@ fn refusals_of_market_orders() {
     ]);
 }
 
-/// "7 if 256 orders rest", also for a market order of either kind (F1.6).
+/// "7 if 256 orders rest" for a market short that follows the bid; a market buy "needs no
+/// place" (No. 8).
 #[test]
-fn a_full_book_refuses_market_orders() {
+fn a_full_book_refuses_market_shorts() {
     let mut input = after_close(100_000);
     ON.iter()
         .for_each(|(event, _)| push_event(&mut input, event));
@@ -263,5 +264,7 @@ fn a_full_book_refuses_market_orders() {
     }
     let lines = play(CENT, &input);
     let last: Vec<&str> = lines.lines().skip(256).collect();
-    assert_eq!(last, ["1 256 256 91100", "0 7", "0 7"]);
+    let buy = ["1 257 257 100000000", "2 257 1 91100 5"];
+    assert_eq!(last[..2], ["1 256 256 91100", "0 7"]);
+    assert_eq!(last[2..], buy);
 }

@@ -1,4 +1,4 @@
-//! A plain implementation of document 01 and, of document 02, of No. 1 to No. 7,
+//! A plain implementation of document 01 and, of document 02, of No. 1 to No. 8,
 //! written from the papers and the readings alone. Comments in quotation marks are
 //! sentences of the papers, letters with numbers (A1, F1.3) are readings.
 

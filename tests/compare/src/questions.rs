@@ -5,15 +5,17 @@ use crate::model::{Question, Venue, BUY, HIGHEST, MOST_EVENTS, MOST_SHARES, PLAC
 use crate::odd::{near_miss, odd_code, odd_number, odd_price};
 use crate::rng::Rng;
 
-/// So many questions are asked at once of a venue that is rare.
+/// So many questions are asked at once of a venue that is rare, and of a full book.
 const OF_RARE: usize = 16;
+const OF_FULL: usize = 2;
 
-/// Questions to ask of a venue, of most at most so many: a full book and spent
-/// events are there for few events, so more is asked of them.
+/// Questions to ask of a venue, of most at most so many: spent events and a full book are
+/// there for fewer events, so more is asked of them.
 pub fn any_questions(rng: &mut Rng, venue: &Venue, most: u32) -> Vec<Question> {
-    let rare = venue.orders.len() == PLACES || venue.accepted == MOST_EVENTS;
-    let count = if rare {
+    let count = if venue.accepted == MOST_EVENTS {
         OF_RARE
+    } else if venue.orders.len() == PLACES {
+        OF_FULL
     } else {
         rng.up_to(most) as usize
     };

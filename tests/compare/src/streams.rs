@@ -2,12 +2,13 @@
 //! and events on made-up venue records, at both steps. Each follows from its
 //! seed.
 
+use crate::full_book_events::near_full;
 use crate::ladder::Ladder;
-use crate::made_up::{made_up, sink_shorts, spoil_record};
+use crate::made_up::{made_up, put_on_one_side, sink_shorts, spoil_record};
 use crate::meetings::meet_own;
 use crate::model::{
     read_record, write_number, write_record, Entry, Event, RecordCheck, Venue, CENT, DOLLAR,
-    HALF_CENT, LEAST_BUFFER, LONGEST_NUMBER, LOWEST, MOST_SHARES, PLACES, SHORT,
+    HALF_CENT, LEAST_BUFFER, LONGEST_NUMBER, LOWEST, MOST_EVENTS, MOST_SHARES, PLACES, SHORT,
 };
 use crate::odd::{near_miss, odd_code, odd_number, odd_owner};
 use crate::rng::Rng;
@@ -422,6 +423,8 @@ pub struct Session {
     pub start: Venue,
     rng: Rng,
     market: Market,
+    /// Whether the book is filled up and kept so.
+    keeps_full: bool,
     left: u32,
     bytes: Vec<u8>,
     at: usize,
@@ -430,6 +433,9 @@ pub struct Session {
 /// Of so many events where there are firms, on average, one is made so that an order meets
 /// its own firm's.
 const EVENTS_A_MEETING: u32 = 12;
+
+/// A session from open with more events than this may fill its book up.
+const LONG: u32 = 2 * PLACES as u32;
 
 /// The longest buffer that a call lends, longer than any event may need.
 pub const MOST_BUFFER: usize = LEAST_BUFFER + 4_096;
@@ -449,11 +455,8 @@ impl Session {
                 (venue, u32::MAX, bytes)
             }
             Kind::MadeUp => {
-                let mut venue = made_up(&mut rng, &market);
-                if rng.one_in(6) {
-                    sink_shorts(&mut rng, &mut venue, &market);
-                }
-                (venue, rng.between(1, 60), Vec::new())
+                let (venue, most) = made_up_start(&mut rng, &market);
+                (venue, rng.between(1, most), Vec::new())
             }
             Kind::Spoilt => {
                 let mut venue = made_up(&mut rng, &market);
@@ -461,11 +464,18 @@ impl Session {
                 (venue, rng.between(1, 4), Vec::new())
             }
         };
+        let keeps_full = match kind {
+            Kind::Sound | Kind::Nonsense if market.slump => false,
+            Kind::Sound | Kind::Nonsense => left > LONG && rng.one_in(2),
+            Kind::Damaged => false,
+            Kind::MadeUp | Kind::Spoilt => is_near_full(&start),
+        };
         Session {
             kind,
             start,
             rng,
             market,
+            keeps_full,
             left,
             bytes,
             at: 0,
@@ -496,17 +506,23 @@ impl Session {
 
     fn event(&mut self, venue: &Venue) -> Event {
         // A full book is one for few events, and codes are looked at before it.
-        let full = venue.orders.len() == PLACES && !self.kind.is_from_open();
-        if full && self.rng.one_in(2) {
+        let full = venue.orders.len() == PLACES && self.kind != Kind::Sound;
+        if full && self.rng.one_in(4) {
             let entry = self.market.entry(&mut self.rng, venue);
             let odd = odd_number(&mut self.rng);
             return Event::Entry(spoil_codes(&mut self.rng, entry, odd, venue));
         }
         // In phase 2 the pass of a bid leaves that of a fall nothing to do.
         let untouched = venue.accepted == self.start.accepted;
-        if venue.phase == 2 && untouched && self.rng.one_in(2) {
+        let seldom = if self.keeps_full { 4 } else { 2 };
+        if venue.phase == 2 && untouched && self.rng.one_in(seldom) {
             let price = self.market.ladder.near_trigger(&mut self.rng, venue.close);
             return Event::Tape { price };
+        }
+        if self.keeps_full {
+            if let Some(event) = near_full(&mut self.rng, &self.market, venue) {
+                return self.spoil_seldom(event, venue);
+            }
         }
         if self.market.has_firms() && self.rng.one_in(EVENTS_A_MEETING) {
             if let Some(event) = meet_own(&mut self.rng, &self.market, venue) {
@@ -525,6 +541,47 @@ impl Session {
             sound
         }
     }
+
+    /// Of entries for a full book, some with one field that isn't sound.
+    fn spoil_seldom(&mut self, event: Event, venue: &Venue) -> Event {
+        match event {
+            Event::Entry(entry) if self.kind != Kind::Sound && self.rng.one_in(8) => {
+                let odd = odd_number(&mut self.rng);
+                Event::Entry(spoil_entry(&mut self.rng, entry, odd, venue))
+            }
+            _ => event,
+        }
+    }
+}
+
+/// A record that open need not reach, and the most events to play on it: more where its
+/// book is full or nearly so, and has often no bid.
+fn made_up_start(rng: &mut Rng, market: &Market) -> (Venue, u32) {
+    let mut venue = made_up(rng, market);
+    if rng.one_in(6) {
+        sink_shorts(rng, &mut venue, market);
+    }
+    if rng.one_in(8) {
+        put_on_one_side(rng, &mut venue);
+    }
+    if !is_near_full(&venue) {
+        return (venue, 60);
+    }
+    if rng.one_in(4) {
+        venue.bid = 0;
+    }
+    let most = if has_numbers_left(&venue) { 240 } else { 60 };
+    (venue, most)
+}
+
+/// Whether at most one place is left.
+fn is_near_full(venue: &Venue) -> bool {
+    venue.orders.len() + 1 >= PLACES
+}
+
+/// Whether many more events are neither spent nor without an id.
+fn has_numbers_left(venue: &Venue) -> bool {
+    venue.accepted < MOST_EVENTS - 300 && venue.last_id < u32::MAX - 20_000_000
 }
 
 /// Mostly enough, at times exactly so, at times short.

@@ -181,18 +181,26 @@ impl Venue {
 
     /// "Entry then: 3 price not legal; 4 shares; 5 mark, show, life or slide; 6
     /// id not above the last accepted id (0 never is); 7 if 256 orders rest." And
-    /// "an owner outside its range is 21, after the slide codes" (F7.3).
+    /// "an owner outside its range is 21, after the slide codes" (F7.3); "only the
+    /// remaining orders meet 7", which stays last (F8.1).
     fn refuse_entry(&self, entry: &Entry) -> Result<(), Refusal> {
         self.refuse_asked(&entry.question())?;
         refuse_codes(entry)?;
         refuse_owner(entry)?;
         refuse_unless(entry.id > self.last_id, Refusal::Id)?;
-        refuse_unless(self.orders.len() < PLACES, Refusal::Full)
+        let place = self.orders.len() < PLACES || !self.needs_place(entry);
+        refuse_unless(place, Refusal::Full)
+    }
+
+    /// "an immediate or cancel order needs no place, nor does a market order taken as
+    /// one", by its terms and whatever becomes of it (F8.1).
+    fn needs_place(&self, entry: &Entry) -> bool {
+        self.life_of(entry) != IMMEDIATE
     }
 
     /// What is looked at first in an entry: 3, 4, and 18 for the mark, "in the
     /// place where 5 stands". And "refusal 3 no longer meets an entry price of
-    /// 0", the others do (F1.6).
+    /// 0", the others do (F1.6); of 7 see `needs_place`.
     pub(super) fn refuse_asked(&self, asked: &Question) -> Result<(), Refusal> {
         let shares = (1..=MOST_SHARES).contains(&asked.shares);
         let price = asked.is_market() || is_legal(self.step, asked.price);
