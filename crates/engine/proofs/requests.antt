@@ -2,7 +2,7 @@
 pub mod PassLaws
 pub mod MarketOrderLaws
 pub mod HalfCentLaws
-pub mod OtherRefusalLaws
+pub mod WordStepLaws
 pub mod WhichCodeLaws
 pub mod FillLaws
 pub mod FallingAgainLaws

@@ -9,10 +9,10 @@ ghost use mathlib.Core.Path.{_≡_};
 ghost use Prim.Native.Nat.{_+_, _<_};
 ghost use lib.ListN.{length};
 ghost use Rattle.book.specs.rules.Words.{resting};
-ghost use Rattle.engine.specs.rules.Working.{lifeOf, orderOf};
+ghost use Rattle.engine.specs.rules.Working.{orderOf};
 ghost use Rattle.engine.specs.steps.Memory.{Room, effectIn, MayAccept, Accepts};
 ghost use Rattle.engine.specs.rules.Layout.{venueOf};
-ghost use Rattle.engine.specs.steps.Steps.{entryBy, HasPlace};
+ghost use Rattle.engine.specs.steps.Steps.{entryBy, EntryHasPlace};
 
 // The order of an entry, with the next stamp and its owner.
 fn next_order(w: &[u32], e: Entry, owner: u32) -> Order
@@ -25,7 +25,7 @@ fn next_order(w: &[u32], e: Entry, owner: u32) -> Order
 
 // An entry whose id is new and that has a place in the book or needs none; owner 0 is that of kind 1.
 pub(crate) fn enter(w: &mut [u32], reports: &mut [u8], e: Entry, owner: u32) -> usize
-    requires { ⌜ MayAccept (now w) × HasPlace (lifeOf (venueOf (now w) .market) (e .mark) (e .price) (e .life)) (length (resting (now w))) × (venueOf (now w) .lastId < e .id) ⌝ }
+    requires { ⌜ MayAccept (now w) × EntryHasPlace (venueOf (now w)) e × (venueOf (now w) .lastId < e .id) ⌝ }
     requires { ⌜ Room (now reports) 0 (effectIn (now w) (entryBy e owner) .reports) ⌝ }
     ensures { λ r. ⌜ Accepts (now (w .entry)) (now (w .exit)) (now (reports .entry)) (now (reports .exit)) (entryBy e owner) r ⌝ }
 {

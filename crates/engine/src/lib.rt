@@ -89,6 +89,7 @@ pub enum Refusal {
     ShowOrLifeOutOfRange,
     // the id isn't above the last accepted one
     IdNotNew,
+    // 256 orders rest, and the entry needs a place
     BookFull,
     // no order rests under the id
     NotResting,

@@ -11,15 +11,15 @@ ghost use mathlib.Core.Path.{_≡_};
 ghost use Prim.Native.Nat.{_≤_};
 ghost use mathlib.Core.Bool.{_||_};
 ghost use mathlib.Core.Option.{none};
-ghost use lib.Dec.{ltb, eqb};
+ghost use lib.Dec.{eqb};
 ghost use lib.ListN.{length};
 ghost use Rattle.numbers.specs.Tests.{conj};
 ghost use Rattle.prices.specs.Prices.{legal, isBid};
 ghost use Rattle.book.specs.rules.Words.{venueWords};
 ghost use Rattle.book.specs.steps.BookSteps.{Book};
 ghost use Rattle.engine.specs.rules.Working.{isMarket};
-ghost use Rattle.engine.specs.rules.Sound.{mostOrders, headerConditions};
-ghost use Rattle.engine.specs.rules.Refusals.{refusalOfTerms, refusalOfMark, refusalOfOtherCodes, refusalOfCodes, refusalOfOwner, refusalOfAsked, needsNoPlace, refusalOfPlace, refusalOfEntry};
+ghost use Rattle.engine.specs.rules.Sound.{headerConditions};
+ghost use Rattle.engine.specs.rules.Refusals.{refusalOfTerms, refusalOfMark, refusalOfOtherCodes, refusalOfCodes, refusalOfOwner, refusalOfAsked, hasPlace, refusalOfPlace, refusalOfEntry};
 ghost use Rattle.engine.specs.rules.Layout.{venueOf, soundWords};
 ghost use Rattle.engine.specs.rules.Answers.{refusedWith};
 ghost use Rattle.engine.specs.steps.Memory.{HasStep};
@@ -135,7 +135,7 @@ pub(crate) fn owner_refusal(owner: u32) -> MayRefuse
 // Whether the book has a place for an entry, or it needs none: it is immediate or cancel, or a market order taken as one.
 fn has_place(w: &[u32], e: Entry) -> bool
     requires { ⌜ Book (now w) ⌝ }
-    ensures { λ r. ⌜ r ≡ (ltb (length (venueOf (now (w .entry)) .orders)) mostOrders || needsNoPlace (venueOf (now (w .entry)) .market) e) ⌝ }
+    ensures { λ r. ⌜ r ≡ hasPlace (venueOf (now (w .entry))) e ⌝ }
 {
     if words::count(w) < words::PLACES {
         return true;
@@ -143,7 +143,7 @@ fn has_place(w: &[u32], e: Entry) -> bool
     working::life_of(header::market(w), e.mark, e.price, e.life) == 1
 }
 
-// The place of an entry: its id, and room in the book.
+// The place of an entry: its id, and a place in the book where it needs one.
 fn place_refusal(w: &[u32], e: Entry) -> MayRefuse
     requires { ⌜ Book (now w) ⌝ }
     ensures { λ r. ⌜ refusedWith r ≡ refusalOfPlace (venueOf (now (w .entry))) e ⌝ }

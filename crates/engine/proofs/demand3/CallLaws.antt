@@ -24,7 +24,7 @@ use Rattle.engine.specs.rules.Refusals.{leastBuffer, refusal}
 use Rattle.engine.specs.rules.Run.{Step, stepUnless, step, Call, Run, run}
 use Rattle.engine.specs.rules.Records.{recordNumbers, reportsBytes, reportsUpTo}
 use Rattle.engine.specs.claims.RoundTrips.{Word, ReportWords}
-use Rattle.engine.specs.rules.Layout.{venueOf, soundWords, stepIn}
+use Rattle.engine.specs.rules.Layout.{venueOf, soundWords, refusedLayout, stepIn}
 use Rattle.engine.specs.rules.Answers.{countOf, bufferAfter}
 use Rattle.engine.specs.claims.Calls.{Applied, AppliedCall, Chain, none, more, LawfulCalls, withReports, readOf, answeredOf, Demand3OfCalls, NoCallGets16, bytesGot, reportsGot, LongEnough, SameForBoth, EqualReports}
 use Rattle.engine.proofs.refinement.RefuseLaws.{words-book, words-sound, sound-words}
@@ -88,7 +88,7 @@ pub accepted-call : {w w′ b b′ : List ℕ} {e : Event} {count : ℕ} → App
 unfolding stepIn step stepUnless pick
 accepted-call {w} {b = b} {e = e} {count = count} a = go (isBook w) (refusal (venueOf w) e (length b)) refl refl (a .answers)
   where
-    go : (t : Bool) (x : Option ℕ) → isBook w ≡ t → refusal (venueOf w) e (length b) ≡ x → gives count ≡ countOf ((pick t (stepUnless x (venueOf w) e) (record { answer = refuses 16; venue = venueOf w })) .answer) → T (isBook w) × (refusal (venueOf w) e (length b) ≡ nothing)
+    go : (t : Bool) (x : Option ℕ) → isBook w ≡ t → refusal (venueOf w) e (length b) ≡ x → gives count ≡ countOf ((pick t (stepUnless x (venueOf w) e) (refusedLayout w)) .answer) → T (isBook w) × (refusal (venueOf w) e (length b) ≡ nothing)
     go true nothing q r z = (rw q tt, r)
     go true (some n) q r z = let y : _≡_ {A = ℕ} 0 1 = cc in absurd (omega arith)
     go false x q r z = let y : _≡_ {A = ℕ} 0 1 = cc in absurd (omega arith)

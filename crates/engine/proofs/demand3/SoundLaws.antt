@@ -36,7 +36,8 @@ use Rattle.engine.specs.rules.Venue.{Venue, thePass, entering, effectOfE
 use Rattle.engine.specs.rules.Sound.{mostOrders, mostEvents, venueConditions, sound}
 use Rattle.engine.specs.steps.Steps.{HasPlace}
 use Rattle.book.proofs.definitions.OrderConditionLaws.{FieldsSound, MayWork, MayRest, market-allowed, mayWork-reduced, mayRest-later, order-mayRest, mayRest-order}
-use Rattle.engine.proofs.refinement.RefusalLaws.{EntryAllowed, Allowed, place-kept}
+use Rattle.engine.proofs.refinement.RefusalLaws.{EntryAllowed, Allowed}
+use Rattle.engine.proofs.refinement.StepLaws.{place-kept}
 use Rattle.engine.proofs.demand3.MarketLaws.{restricted-mark, HasPermitted}
 
 -- the book; g is the step, n the last id and s the last stamp
@@ -47,7 +48,7 @@ pub record SoundBook (g n s : ℕ) (os : List Order) : Type 0 where
   pub orders : All (MayRest g n s) os
   pub stamps : Differ stampOf os
 
--- an order works, and has a place in the book
+-- an order works, and has a place in the book or needs none
 pub record SoundWork (g n s : ℕ) (w : Order) (os : List Order) : Type 0 where
   pub book : SoundBook g n s os
   pub place : HasPlace (w .life) (length os)
@@ -107,8 +108,8 @@ remainder-known w =
     (λ t. by-test (RemainderOf w) _ (λ r. (omega tests, omega arith)) (λ r. by-test (RemainderOf w) _ (λ x. (omega tests, omega arith)) (λ x. (omega tests, neqb (w .life) 1 r))))
 
 -- an order that rests isn't immediate or cancel
-pub rests-later : (w : Order) → Rests ≡ remainder w → w.life ≡ 1 → ⊥
-rests-later w e = subst (RemainderOf w) (sym e) (remainder-known w) .1
+pub rests-not-immediate : (w : Order) → Rests ≡ remainder w → w.life ≡ 1 → ⊥
+rests-not-immediate w e = subst (RemainderOf w) (sym e) (remainder-known w) .1
 
 module _ {g n s : ℕ} {w : Order} {os : List Order} where
   withdrawing-sound : {o : Order} → List·Memᴰ o os → SoundWork g n s w os → SoundWork g n s ((withdrawing w o os) .left) ((withdrawing w o os) .orders)
@@ -309,7 +310,7 @@ orderOf-sound v e k f o g =
     let p = f .place in
     record {
       book = book-later (g .book) (e .id) (v .lastStamp + 1) (omega (arith, p .newId)) (omega arith);
-      place = p .room;
+      place = p .place;
       works =
           record {
             fields = record { mark = c .mark; limit = t .limit; show = c .show; life = life-code m (e .mark) (e .price) (e .life) (c .life); slide = c .slide; entryBid = g .market .bid; market = follows-allowed m (e .mark) (e .price); owner = o };

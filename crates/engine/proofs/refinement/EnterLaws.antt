@@ -16,11 +16,11 @@ use Rattle.engine.specs.declared.Market.{Market}
 use Rattle.engine.specs.rules.Market.{marketAfter}
 use Rattle.engine.specs.rules.Reports.{Report, accepted}
 use Rattle.engine.specs.rules.Records.{reportBytes, reportsBytes}
-use Rattle.engine.specs.rules.Working.{lifeOf, orderOf, work}
+use Rattle.engine.specs.rules.Working.{orderOf, work}
 use Rattle.engine.specs.rules.Venue.{Venue, entering, effectOfEntry, effectOf, lastIdAfter, venueAfter}
 use Rattle.engine.specs.steps.Memory.{Ordered, Becomes, Room, Does, withOrders, finished, effectIn, MayAccept, Accepts}
 use Rattle.engine.specs.rules.Layout.{venueOf}
-use Rattle.engine.specs.steps.Steps.{entryBy, HasPlace, MayEnter}
+use Rattle.engine.specs.steps.Steps.{entryBy, HasPlace, EntryHasPlace, MayEnter}
 use Rattle.engine.proofs.demand3.SoundLaws.{SoundVenue, sound-venue}
 use Rattle.engine.proofs.refinement.MemoryLaws.{becomes-then, does-becomes}
 use Rattle.engine.proofs.refinement.StepLaws.{room-as, room-first, room-one, room-then, put-one, does-report, does-then}
@@ -69,7 +69,7 @@ module _ (w : List ℕ) (e : Entry) (k : ℕ) (o : Order) (q : o ≡ orderOf (ve
   entry-room b r = room-one b 0 _ (room-first b 0 (accepted (o .id) (o .stamp) (o .price) ∷ []) (work o (resting w) .reports) (room-as b 0 entry-reports r))
 
   -- it may enter
-  pub entry-enters : MayAccept w → HasPlace (lifeOf (venueOf w .market) (e .mark) (e .price) (e .life)) (length (resting w)) → venueOf w .lastId < e .id → MayEnter o w
+  pub entry-enters : MayAccept w → EntryHasPlace (venueOf w) e → venueOf w .lastId < e .id → MayEnter o w
   unfolding venueOf orderOf
   entry-enters a place new =
       record {

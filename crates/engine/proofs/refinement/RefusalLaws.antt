@@ -1,6 +1,6 @@
 -- What is known of an event that isn't refused. Assumes nothing.
 use Prim.Native.Nat.{ℕ, _≤_, _<_}
-use native.Mathlib.Omega.{arith}
+use mathlib.Core.Path.{_≡_, subst}
 use mathlib.Core.Bool.{Bool, true, false, not, _||_}
 use mathlib.Core.Logic.{_⊎_, inl, inr}
 use mathlib.Core.Option.{Option, none, some}
@@ -14,11 +14,11 @@ use Rattle.book.specs.rules.Sound.{mostShares, mostOwner, slideAllowed}
 use Rattle.engine.specs.declared.Entry.{Entry}
 use Rattle.engine.specs.declared.Event.{Event}
 use Rattle.engine.specs.declared.Event.the-variants.{Entry as entry, Cancel as cancel, Bid as bid, Tape as tape, DayEnd as dayEnd, OwnedEntry as ownedEntry}
-use Rattle.engine.specs.rules.Working.{isMarket, limitOf, lifeOf}
+use Rattle.engine.specs.rules.Working.{isMarket, limitOf}
 use Rattle.engine.specs.rules.Venue.{Venue}
 use Rattle.engine.specs.rules.Sound.{mostOrders, mostEvents, venueConditions, sound}
 use Rattle.engine.specs.rules.Refusals.{refuseUnless, firstOf, refusalOfTerms, refusalOfCodes, refusalOfOwner, refusalOfPlace, refusalOfEntry, rests, refusalOfKind, leastBuffer, refusal}
-use Rattle.engine.specs.steps.Steps.{HasPlace}
+use Rattle.engine.specs.steps.Steps.{HasPlace, EntryHasPlace}
 
 -- the step of a sound record is 50 or 100
 pub sound-step : (v : Venue) → T (sound v) → T (isStep (v.market.step))
@@ -39,7 +39,7 @@ OwnerAllowed k = record { least : 1 ≤ k; most : k ≤ mostOwner }
 
 -- what those of its place leave
 abbrev pub PlaceAllowed : Venue → Entry → Type 0
-PlaceAllowed v e = record { newId : v.lastId < e.id; room : HasPlace (lifeOf (v .market) (e .mark) (e .price) (e .life)) (length (v .orders)) }
+PlaceAllowed v e = record { newId : v.lastId < e.id; place : EntryHasPlace v e }
 
 -- what an entry of either kind has, and what the refusals of its kind leave of an event
 abbrev pub EntryAllowed : Venue → Entry → Type 0
@@ -107,22 +107,18 @@ unfolding refusalOfOwner
 refusalOfOwner-known k =
     refuseUnless-known _ (leb 1 k) _ _ (λ a. refuseUnless-known _ (leb k mostOwner) _ none (λ b. record { least = leb→le _ _ a; most = leb→le _ _ b }))
 
--- an order has a place by the test
+-- an order has a place, or needs none, by the test
 place-there : (life count : ℕ) → T (ltb count mostOrders || eqb life 1) → HasPlace life count
-place-there life count t later = go (or-T (ltb count mostOrders) (eqb life 1) t)
+place-there life count t day = go (or-T (ltb count mostOrders) (eqb life 1) t)
   where
     go : T (ltb count mostOrders) ⊎ T (eqb life 1) → count < mostOrders
     go (inl x) = leb→le _ _ x
-    go (inr x) = absurd (later (eqb→eq life 1 x))
-
--- it stays where no more rest
-pub place-kept : {life count fewer : ℕ} → HasPlace life count → fewer ≤ count → HasPlace life fewer
-place-kept h l later = omega (arith, h later, l)
+    go (inr x) = absurd (day (eqb→eq life 1 x))
 
 refusalOfPlace-known : (v : Venue) (e : Entry) → Unless (refusalOfPlace v e) (PlaceAllowed v e)
 unfolding refusalOfPlace
 refusalOfPlace-known v e =
-    refuseUnless-known _ _ _ _ (λ i. refuseUnless-known _ _ _ none (λ r. record { newId = leb→le _ _ i; room = place-there _ (length (v .orders)) r }))
+    refuseUnless-known _ _ _ _ (λ i. refuseUnless-known _ _ _ none (λ r. record { newId = leb→le _ _ i; place = place-there _ (length (v .orders)) r }))
 
 -- an entry's, with what those of its owner leave
 refusalOfEntry-known : (v : Venue) → T (isStep (v.market.step)) → (e : Entry) (P : Type 0) (ofOwner : Option ℕ) → Unless ofOwner P → Unless (refusalOfEntry v e ofOwner) (EntryAllowed v e × P)
@@ -146,3 +142,6 @@ pub refusal-known : (v : Venue) (e : Event) (n : ℕ) → Unless (refusal v e n)
 unfolding refusal
 refusal-known v e n =
     refuseUnless-known _ _ _ _ (λ s. refuseUnless-known _ _ _ _ (λ b. refuseUnless-known _ _ _ _ (λ a. unless-map _ _ (λ k. record { sound = s; buffer = leb→le _ _ b; events = leb→le _ _ a; allowed = k }) (refusalOfKind v e) (refusalOfKind-known v (sound-step v s) e))))
+
+pub none-known : (v : Venue) (e : Event) (n : ℕ) → refusal v e n ≡ none → NotRefused v e n
+none-known v e n r = subst (λ (x : Option ℕ). Unless x (NotRefused v e n)) r (refusal-known v e n)

@@ -38,13 +38,13 @@ use Rattle.engine.specs.rules.Refusals.{refuseUnless, firstOf, refusalOf
 use Rattle.engine.specs.rules.Run.{Step, stepUnless, step}
 use Rattle.engine.specs.rules.Records.{reportsBytes}
 use Rattle.engine.specs.rules.Answers.{countOf, bufferAfter}
-use Rattle.engine.specs.rules.Layout.{venueOf, soundWords, stepIn}
+use Rattle.engine.specs.rules.Layout.{venueOf, soundWords, refusedLayout, stepIn}
 use Rattle.engine.specs.rules.Fill.{askedOrder, fillUnless, wouldFill, wouldFillIn}
 use Rattle.engine.specs.claims.RoundTrips.{Word}
 use Rattle.engine.specs.claims.Calls.{Applied}
 use Rattle.engine.specs.claims.Fill.{answerFor, answerIn, ReadShortest, ReadsShortest, ReadsShortestInCalls, refusalGiven, ofVenueTermsOrMark, RefusedByKind, RefusedByKindInCalls, RefusedAsEntries, RefusedAsEntriesInCalls, NoQuestionGets16, NoQuestionOfCallsGets16, executedBy, executedFor, TrueOf, TrueOfTheEffect, TellsTheTruth, TrueOfBytes, TellsTheTruthOfCalls}
 use Rattle.engine.proofs.refinement.RefuseLaws.{refuse-yes, unrefused}
-use Rattle.engine.proofs.refinement.RefusalLaws.{NotRefused, Unless, refusal-known}
+use Rattle.engine.proofs.refinement.RefusalLaws.{NotRefused, none-known}
 use Rattle.engine.proofs.refinement.OpeningLaws.{opened-book, opened-venue, step-in}
 use Rattle.engine.proofs.refinement.QuestionLaws.{asked-shares, sound-not-16, words-not-16}
 use Rattle.engine.proofs.demand3.SoundLaws.{sound-venue, venue-sound, book-distinct, book-others}
@@ -250,7 +250,7 @@ true-of-the-effect v e i r q =
 
 module _ (v : Venue) (e : Entry) (n : ℕ) (r : refusal v (entry e) n ≡ none) where
   known : NotRefused v (entry e) n
-  known = subst (λ (x : Option ℕ). Unless x (NotRefused v (entry e) n)) r (refusal-known v (entry e) n)
+  known = none-known v (entry e) n r
 
   -- the question isn't either
   question-given : answerFor v e ≡ gives (frontRead (asked v e) (v .orders))
@@ -324,12 +324,12 @@ refused-by-kind-in-words w e = refused-chosen w e (isBook w)
 pub refused-by-kind-in-calls : RefusedByKindInCalls
 refused-by-kind-in-calls w e told q = ap refusalGiven q ∙ refused-by-kind-in-words w e
 
-count-given : (x : Outcome (List Report)) → refusalGiven (countOf x) ≡ refusalGiven x
+pub count-given : (x : Outcome (List Report)) → refusalGiven (countOf x) ≡ refusalGiven x
 count-given (gives rs) = refl
 count-given (refuses n) = refl
 
 module _ (w : List ℕ) (e : Entry) (n : ℕ) (l : leastBuffer ≤ n) (a : venueOf w .acceptedEvents < mostEvents) where
-  chosen : (laid : Bool) → refusalGiven (pick laid (answerFor (venueOf w) e) (refuses 16)) ≡ ofVenueTermsOrMark (refusalGiven (pick laid (step (venueOf w) (entry e) n) (record { answer = refuses 16; venue = venueOf w }) .answer))
+  chosen : (laid : Bool) → refusalGiven (pick laid (answerFor (venueOf w) e) (refuses 16)) ≡ ofVenueTermsOrMark (refusalGiven (pick laid (step (venueOf w) (entry e) n) (refusedLayout w) .answer))
   unfolding pick ofVenueTermsOrMark
   chosen true = refused-as-entries (venueOf w) e n l a
   chosen false = refl

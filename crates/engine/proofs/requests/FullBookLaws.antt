@@ -1,4 +1,4 @@
--- No. 8: 7 is lifted from the entries that need no place and from nothing else, and such an entry takes none. Assumes nothing.
+-- No. 8: an entry that needs no place no longer meets 7, nothing else changes, and such an entry takes none. Assumes nothing.
 use Prim.Native.Nat.{ℕ, _+_, _≤_, _<_, min}
 use native.Mathlib.Omega.{arith}
 use mathlib.Core.Path.{_≡_, refl, sym, ap, _∙_, subst}
@@ -12,9 +12,10 @@ use Rattle.numbers.specs.Tests.{pick, All}
 use Rattle.numbers.specs.Answers.{Outcome, gives, refuses}
 use Rattle.numbers.proofs.TestLaws.{by-test, and-T, all-map}
 use Rattle.book.specs.declared.Order.{Order}
+use Rattle.book.specs.rules.Orders.{find}
 use Rattle.book.specs.rules.Matching.{Meeting, Matched, trading, withdrawing, meeting, matching}
-use Rattle.book.specs.rules.Words.{resting, isBook}
-use Rattle.book.proofs.definitions.OrderLaws.{Distinct, without-all, without-length}
+use Rattle.book.specs.rules.Words.{resting}
+use Rattle.book.proofs.definitions.OrderLaws.{Distinct, without-all, without-length, all-members, find-mem}
 use Rattle.book.proofs.definitions.MeetingLaws.{meeting-by}
 use Rattle.book.proofs.definitions.MatchingLaws.{afterTrade-all, afterTrade-length, meeting-distinct, matching-keeps, unread}
 use Rattle.engine.specs.declared.Entry.{Entry}
@@ -27,19 +28,17 @@ use Rattle.engine.specs.rules.Reports.{Report}
 use Rattle.engine.specs.rules.Working.{isMarket, followsBid, lifeOf, orderOf, remainder, afterRemainder, work}
 use Rattle.engine.specs.rules.Venue.{Venue, entering, effectOfEntry, effectOf}
 use Rattle.engine.specs.rules.Sound.{mostOrders}
-use Rattle.engine.specs.rules.Refusals.{refuseUnless, firstOf, refusalOfTerms, refusalOfCodes, refusalOfOwner, needsNoPlace, refusalOfPlace, refusalOfEntry, refusalOfKind, refusal}
+use Rattle.engine.specs.rules.Refusals.{refuseUnless, firstOf, refusalOfTerms, refusalOfCodes, refusalOfOwner, needsNoPlace, refusalOfPlace, refusalOfEntry, rests, refusalOfKind, refusal}
 use Rattle.engine.specs.rules.Run.{Step, stepUnless, step}
-use Rattle.engine.specs.rules.Answers.{countOf, bufferAfter}
+use Rattle.engine.specs.rules.Answers.{countOf}
 use Rattle.engine.specs.rules.Layout.{venueOf, stepIn}
-use Rattle.engine.specs.claims.Calls.{Applied}
 use Rattle.engine.specs.claims.Fill.{refusalGiven}
 use Rattle.engine.specs.claims.OtherRefusals.{kindWith, refusalWith, stepWith, stepInWith}
-use Rattle.engine.specs.claims.FullBook.{NoPlaceByTerms, entersWithoutPlace, placeBefore, entryBefore, lifted, LetIn, FullBookTrades, FullBooksTrade, NoPlaceTaken, NeverTakesAPlace, CallDoes, FullBookTradesInCall, FullBooksTradeInCalls}
-use Rattle.engine.proofs.refinement.RefusalLaws.{Unless, NotRefused, refusal-known}
-use Rattle.engine.proofs.refinement.RefuseLaws.{refuse-yes}
+use Rattle.engine.specs.claims.FullBook.{NoPlaceByTerms, eventNeedsNoPlace, entryBefore, without7, NewlyAccepted, FullBooksTrade, Rested, NoPlaceTaken, NeverTakesAPlace, FullBooksTradeInCalls}
+use Rattle.engine.proofs.refinement.RefusalLaws.{none-known}
 use Rattle.engine.proofs.demand3.SoundLaws.{RemainderOf, remainder-known, SoundVenue, sound-venue, book-distinct}
-use Rattle.engine.proofs.requests.FillLaws.{step-given}
-use Rattle.engine.proofs.requests.OtherRefusalLaws.{in-words}
+use Rattle.engine.proofs.requests.FillLaws.{step-given, count-given}
+use Rattle.engine.proofs.requests.WordStepLaws.{in-words, call-does}
 
 -- who needs no place
 
@@ -59,90 +58,90 @@ pub no-place-by-terms : NoPlaceByTerms
 unfolding lifeOf followsBid
 no-place-by-terms m e = life-told (isMarket (e .price)) (restricted m (e .mark) && ltb 0 (m .bid)) (e .life)
 
--- 7 lifted from a chain
+-- a chain without 7
 
 module _ (z : Bool) where
-  other-kept : (n : ℕ) → eqb n 7 ≡ false → lifted z (some n) ≡ some n
+  other-stays : (n : ℕ) → eqb n 7 ≡ false → without7 z (some n) ≡ some n
   unfolding pick
-  other-kept n h = go z
+  other-stays n h = go z
     where
       go : (y : Bool) → pick (y && eqb n 7) none (some n) ≡ some n
       go true = rw h
       go false = refl
 
-  lifted-later : (b : Bool) (n : ℕ) (later before : Option ℕ) → eqb n 7 ≡ false → later ≡ lifted z before → refuseUnless b n later ≡ lifted z (refuseUnless b n before)
+  later-without7 : (b : Bool) (n : ℕ) (later before : Option ℕ) → eqb n 7 ≡ false → later ≡ without7 z before → refuseUnless b n later ≡ without7 z (refuseUnless b n before)
   unfolding refuseUnless
-  lifted-later true n later before k h = h
-  lifted-later false n later before k h = sym (other-kept n k)
+  later-without7 true n later before k h = h
+  later-without7 false n later before k h = sym (other-stays n k)
 
-  -- a part of the chain has no 7
-  abbrev Keeps : Option ℕ → Type 0
-  Keeps r = r ≡ lifted z r
+  -- a part of the chain is the same without 7
+  abbrev Stays : Option ℕ → Type 0
+  Stays r = r ≡ without7 z r
 
-  lifted-first : (r later before : Option ℕ) → Keeps r → later ≡ lifted z before → firstOf r later ≡ lifted z (firstOf r before)
+  first-without7 : (r later before : Option ℕ) → Stays r → later ≡ without7 z before → firstOf r later ≡ without7 z (firstOf r before)
   unfolding firstOf
-  lifted-first none later before k h = h
-  lifted-first (some n) later before k h = k
+  first-without7 none later before k h = h
+  first-without7 (some n) later before k h = k
 
-  terms-kept : (s price shares : ℕ) → Keeps (refusalOfTerms s price shares)
+  terms-stay : (s price shares : ℕ) → Stays (refusalOfTerms s price shares)
   unfolding refusalOfTerms
-  terms-kept s price shares = lifted-later _ 3 _ _ refl (lifted-later _ 4 _ _ refl (lifted-later _ 4 none none refl refl))
+  terms-stay s price shares = later-without7 _ 3 _ _ refl (later-without7 _ 4 _ _ refl (later-without7 _ 4 none none refl refl))
 
-  codes-kept : (e : Entry) → Keeps (refusalOfCodes e)
+  codes-stay : (e : Entry) → Stays (refusalOfCodes e)
   unfolding refusalOfCodes
-  codes-kept e = lifted-later _ 18 _ _ refl (lifted-later _ 5 _ _ refl (lifted-later _ 5 _ _ refl (lifted-later _ 19 _ _ refl (lifted-later _ 20 none none refl refl))))
+  codes-stay e = later-without7 _ 18 _ _ refl (later-without7 _ 5 _ _ refl (later-without7 _ 5 _ _ refl (later-without7 _ 19 _ _ refl (later-without7 _ 20 none none refl refl))))
 
-  owner-kept : (k : ℕ) → Keeps (refusalOfOwner k)
+  owner-stays : (k : ℕ) → Stays (refusalOfOwner k)
   unfolding refusalOfOwner
-  owner-kept k = lifted-later _ 21 _ _ refl (lifted-later _ 21 none none refl refl)
+  owner-stays k = later-without7 _ 21 _ _ refl (later-without7 _ 21 none none refl refl)
 
   -- the place itself
-  full-lifted : (few : Bool) → refuseUnless (few || z) 7 none ≡ lifted z (refuseUnless few 7 none)
+  full-without7 : (few : Bool) → refuseUnless (few || z) 7 none ≡ without7 z (refuseUnless few 7 none)
   unfolding refuseUnless pick
-  full-lifted few = go few z
+  full-without7 few = go few z
     where
-      go : (f y : Bool) → refuseUnless (f || y) 7 none ≡ lifted y (refuseUnless f 7 none)
+      go : (f y : Bool) → refuseUnless (f || y) 7 none ≡ without7 y (refuseUnless f 7 none)
       go true y = refl
       go false true = refl
       go false false = refl
 
 -- of the refusals
 
-entry-lifted : (v : Venue) (e : Entry) (ofOwner : Option ℕ) → Keeps (needsNoPlace (v .market) e) ofOwner → refusalOfEntry v e ofOwner ≡ lifted (needsNoPlace (v .market) e) (entryBefore v e ofOwner)
+entry-without7 : (v : Venue) (e : Entry) (ofOwner : Option ℕ) → Stays (needsNoPlace (v .market) e) ofOwner → refusalOfEntry v e ofOwner ≡ without7 (needsNoPlace (v .market) e) (entryBefore v e ofOwner)
 unfolding refusalOfEntry refusalOfPlace
-entry-lifted v e ofOwner h =
+entry-without7 v e ofOwner h =
     let z : Bool = needsNoPlace (v .market) e in
-    lifted-first z _ _ _ (terms-kept z (v.market.step) (e .price) (e .shares)) (lifted-first z _ _ _ (codes-kept z e) (lifted-first z _ _ _ h (lifted-later z _ 6 _ _ refl (full-lifted z _))))
+    first-without7 z _ _ _ (terms-stay z (v.market.step) (e .price) (e .shares)) (first-without7 z _ _ _ (codes-stay z e) (first-without7 z _ _ _ h (later-without7 z _ 6 _ _ refl (full-without7 z _))))
 
-none-lifted : (r : Option ℕ) → r ≡ lifted false r
+nothing-left-out : (r : Option ℕ) → r ≡ without7 false r
 unfolding pick
-none-lifted none = refl
-none-lifted (some n) = refl
+nothing-left-out none = refl
+nothing-left-out (some n) = refl
 
-kind-lifted : (v : Venue) (x : Event) → refusalOfKind v x ≡ lifted (entersWithoutPlace (v .market) x) (kindWith entryBefore v x)
+kind-without7 : (v : Venue) (x : Event) → refusalOfKind v x ≡ without7 (eventNeedsNoPlace (v .market) x) (kindWith entryBefore v x)
 unfolding refusalOfKind
-kind-lifted v (entry e) = entry-lifted v e none refl
-kind-lifted v (cancel i) = none-lifted _
-kind-lifted v (bid b) = none-lifted _
-kind-lifted v (tape p) = none-lifted _
-kind-lifted v (dayEnd c) = none-lifted _
-kind-lifted v (ownedEntry e k) = entry-lifted v e (refusalOfOwner k) (owner-kept (needsNoPlace (v .market) e) k)
+kind-without7 v (entry e) = entry-without7 v e none refl
+kind-without7 v (cancel i) = nothing-left-out _
+kind-without7 v (bid b) = nothing-left-out _
+kind-without7 v (tape p) = nothing-left-out _
+kind-without7 v (dayEnd c) = nothing-left-out _
+kind-without7 v (ownedEntry e k) = entry-without7 v e (refusalOfOwner k) (owner-stays (needsNoPlace (v .market) e) k)
 
-refusal-lifted : (v : Venue) (x : Event) (b : ℕ) → refusal v x b ≡ lifted (entersWithoutPlace (v .market) x) (refusalWith entryBefore v x b)
+refusal-without7 : (v : Venue) (x : Event) (b : ℕ) → refusal v x b ≡ without7 (eventNeedsNoPlace (v .market) x) (refusalWith entryBefore v x b)
 unfolding refusal
-refusal-lifted v x b =
-    let z : Bool = entersWithoutPlace (v .market) x in
-    lifted-later z _ 16 _ _ refl (lifted-later z _ 1 _ _ refl (lifted-later z _ 2 _ _ refl (kind-lifted v x)))
+refusal-without7 v x b =
+    let z : Bool = eventNeedsNoPlace (v .market) x in
+    later-without7 z _ 16 _ _ refl (later-without7 z _ 1 _ _ refl (later-without7 z _ 2 _ _ refl (kind-without7 v x)))
 
--- what is lifted was 7, and what isn't is as it was
+-- what is refused now was refused so before; what isn't, and was, needs no place and was refused with 7
 
-lifted-given : (z : Bool) (r : Option ℕ) (n : ℕ) → lifted z r ≡ some n → r ≡ some n
-lifted-given z none n = λ h. h
-lifted-given z (some k) n =
+given-before : (z : Bool) (r : Option ℕ) (n : ℕ) → without7 z r ≡ some n → r ≡ some n
+given-before z none n = λ h. h
+given-before z (some k) n =
     by-test (λ (r : Option ℕ). r ≡ some n → some k ≡ some n) _ (λ t h. let y : _≡_ {A = ℕ} 0 1 = cc in absurd (omega arith)) (λ t h. h)
 
-lifted-none : (z : Bool) (n : ℕ) → lifted z (some n) ≡ none → T z × (n ≡ 7)
-lifted-none z n =
+none-now : (z : Bool) (n : ℕ) → without7 z (some n) ≡ none → T z × (n ≡ 7)
+none-now z n =
     by-test
     (λ (r : Option ℕ). r ≡ none → T z × (n ≡ 7))
     _
@@ -152,92 +151,88 @@ lifted-none z n =
 -- where there is room, nothing changes
 
 module _ (v : Venue) (h : length (v .orders) < mostOrders) where
-  entry-same : (e : Entry) (ofOwner : Option ℕ) → entryBefore v e ofOwner ≡ refusalOfEntry v e ofOwner
+  entry-with-room : (e : Entry) (ofOwner : Option ℕ) → entryBefore v e ofOwner ≡ refusalOfEntry v e ofOwner
   unfolding refusalOfEntry refusalOfPlace
-  entry-same e ofOwner = simp (lt-ltb (length (v .orders)) mostOrders h)
+  entry-with-room e ofOwner = simp (lt-ltb (length (v .orders)) mostOrders h)
 
-  kind-same : (x : Event) → kindWith entryBefore v x ≡ refusalOfKind v x
+  kind-with-room : (x : Event) → kindWith entryBefore v x ≡ refusalOfKind v x
   unfolding refusalOfKind
-  kind-same (entry e) = entry-same e none
-  kind-same (cancel i) = refl
-  kind-same (bid b) = refl
-  kind-same (tape p) = refl
-  kind-same (dayEnd c) = refl
-  kind-same (ownedEntry e k) = entry-same e (refusalOfOwner k)
+  kind-with-room (entry e) = entry-with-room e none
+  kind-with-room (cancel i) = refl
+  kind-with-room (bid b) = refl
+  kind-with-room (tape p) = refl
+  kind-with-room (dayEnd c) = refl
+  kind-with-room (ownedEntry e k) = entry-with-room e (refusalOfOwner k)
 
-  refusal-same : (x : Event) (b : ℕ) → refusalWith entryBefore v x b ≡ refusal v x b
+  refusal-with-room : (x : Event) (b : ℕ) → refusalWith entryBefore v x b ≡ refusal v x b
   unfolding refusal
-  refusal-same x b = rw (kind-same x)
+  refusal-with-room x b = rw (kind-with-room x)
 
 -- no place is taken
 
--- an immediate order, and a book of at most n orders with ids up to l
-record Immediate (n l : ℕ) (w : Order) (os : List Order) : Type 0 where
+-- an immediate order works, and has taken none so far: os are left of the orders before
+record NoneTaken (before : List Order) (w : Order) (os : List Order) : Type 0 where
   life : w.life ≡ 1
   distinct : Distinct os
-  noMore : length os ≤ n
-  older : All (λ (x : Order). x.id ≤ l) os
+  taken : NoPlaceTaken before os
 
-module _ {n l : ℕ} where
-  meeting-immediate : (w o : Order) (os : List Order) → List·Memᴰ o os → Immediate n l w os → Immediate n l ((meeting w o os) .left) ((meeting w o os) .orders)
+module _ {before : List Order} where
+  meeting-takes-none : (w o : Order) (os : List Order) → List·Memᴰ o os → NoneTaken before w os → NoneTaken before ((meeting w o os) .left) ((meeting w o os) .orders)
   unfolding trading withdrawing
-  meeting-immediate w o os m k =
+  meeting-takes-none w o os m k =
       let q : ℕ = min (w .shares) (o .shares) in
+      let d = k .distinct in
+      let t = k .taken in
       meeting-by
-      (λ (x : Meeting). Distinct (x .orders) → Immediate n l (x .left) (x .orders))
+      (λ (x : Meeting). Distinct (x .orders) → NoneTaken before (x .left) (x .orders))
       w
       o
       os
-      (λ d. record { life = k .life; distinct = d; noMore = omega (arith, without-length (o .id) os, k .noMore); older = without-all (λ (x : Order). x.id ≤ l) (o .id) os (k .older) })
-      (λ d. record { life = k .life; distinct = d; noMore = omega (arith, afterTrade-length q m (k .distinct), k .noMore); older = afterTrade-all q m (k .distinct) (λ (x : Order). x.id ≤ l) (λ z j i h. h) (k .older) })
-      (meeting-distinct w o os m (k .distinct))
+      (λ e. record { life = k .life; distinct = e; taken = record { noMore = omega (arith, without-length (o .id) os, t .noMore); rested = without-all (Rested before) (o .id) os (t .rested) } })
+      (λ e. record { life = k .life; distinct = e; taken = record { noMore = omega (arith, afterTrade-length q m d, t .noMore); rested = afterTrade-all q m d (Rested before) (λ z j i h. h) (t .rested) } })
+      (meeting-distinct w o os m d)
 
-  remainder-immediate : (x : Remainder) (w : Order) (os : List Order) → RemainderOf w x → Immediate n l w os → Immediate n l w ((afterRemainder x w os) .orders)
+  remainder-takes-none : (x : Remainder) (w : Order) (os : List Order) → RemainderOf w x → NoneTaken before w os → NoPlaceTaken before ((afterRemainder x w os) .orders)
   unfolding afterRemainder
-  remainder-immediate Filled w os h k = k
-  remainder-immediate (Cancelled cause) w os h k = k
-  remainder-immediate Rests w os h k = absurd (h .1 (k .life))
+  remainder-takes-none Filled w os h k = k .taken
+  remainder-takes-none (Cancelled cause) w os h k = k .taken
+  remainder-takes-none Rests w os h k = absurd (h .1 (k .life))
 
-  work-immediate : (w : Order) (os : List Order) → Immediate n l w os → All (λ (x : Order). x.id ≤ l) ((work w os) .orders) × (length ((work w os) .orders) ≤ n)
+  work-takes-none : (w : Order) (os : List Order) → NoneTaken before w os → NoPlaceTaken before ((work w os) .orders)
   unfolding work
-  work-immediate w os k =
+  work-takes-none w os k =
       let m : Matched = matching w os in
-      let r = remainder-immediate (remainder (m .left)) (m .left) (m .orders) (remainder-known (m .left)) (matching-keeps unread (λ x y a. Immediate n l x y) (λ x o y a g i. meeting-immediate x o y (g .0) i) w os tt k) in
-      (r .older, r .noMore)
+      remainder-takes-none (remainder (m .left)) (m .left) (m .orders) (remainder-known (m .left)) (matching-keeps unread (λ x y a. NoneTaken before x y) (λ x o y a g i. meeting-takes-none x o y (g .0) i) w os tt k)
 
-module _ (v : Venue) where
-  entry-takes-none : (e : Entry) (k : ℕ) → SoundVenue v → T (needsNoPlace (v .market) e) → NoPlaceTaken (v .lastId) (v .orders) (effectOfEntry (v .market) v k e .orders)
+-- at the start
+rested-there : (os : List Order) → Distinct os → (o : Order) → List·Memᴰ o os → Rested os o
+unfolding rests
+rested-there os d o m = rw (find-mem m d) tt
+
+all-rested : (os : List Order) → Distinct os → NoPlaceTaken os os
+all-rested os d = record { noMore = omega arith; rested = all-map (rested-there os d) os (all-members os) }
+
+module _ (v : Venue) (s : SoundVenue v) where
+  entry-takes-none : (e : Entry) (k : ℕ) → T (needsNoPlace (v .market) e) → NoPlaceTaken (v .orders) (effectOfEntry (v .market) v k e .orders)
   unfolding effectOfEntry entering orderOf
-  entry-takes-none e k s t =
-      let r =
-          work-immediate
-          {n = length (v .orders)}
-          {l = v .lastId}
-          (orderOf (v .market) (v .lastStamp + 1) k e)
-          (v .orders)
-          (record {
-            life = eqb→eq (lifeOf (v .market) (e .mark) (e .price) (e .life)) 1 t;
-            distinct = book-distinct (s .book);
-            noMore = omega arith;
-            older = all-map (λ x h. h .works .id) (v .orders) (s .book .orders);
-          })
-      in
-      record { noMore = r .1; older = r .0 }
+  entry-takes-none e k t =
+      let d = book-distinct (s .book) in
+      work-takes-none (orderOf (v .market) (v .lastStamp + 1) k e) (v .orders) (record { life = eqb→eq (lifeOf (v .market) (e .mark) (e .price) (e .life)) 1 t; distinct = d; taken = all-rested (v .orders) d })
 
-  event-takes-none : (x : Event) → SoundVenue v → T (entersWithoutPlace (v .market) x) → NoPlaceTaken (v .lastId) (v .orders) (stepUnless none v x .venue .orders)
+  event-takes-none : (x : Event) → T (eventNeedsNoPlace (v .market) x) → NoPlaceTaken (v .orders) (stepUnless none v x .venue .orders)
   unfolding stepUnless effectOf
-  event-takes-none (entry e) s t = entry-takes-none e 0 s t
-  event-takes-none (cancel i) s t = absurd t
-  event-takes-none (bid b) s t = absurd t
-  event-takes-none (tape p) s t = absurd t
-  event-takes-none (dayEnd c) s t = absurd t
-  event-takes-none (ownedEntry e k) s t = entry-takes-none e k s t
+  event-takes-none (entry e) t = entry-takes-none e 0 t
+  event-takes-none (cancel i) t = absurd t
+  event-takes-none (bid b) t = absurd t
+  event-takes-none (tape p) t = absurd t
+  event-takes-none (dayEnd c) t = absurd t
+  event-takes-none (ownedEntry e k) t = entry-takes-none e k t
 
 -- of an event
 
 module _ (v : Venue) (x : Event) (b : ℕ) where
-  abbrev withoutPlace : Bool
-  withoutPlace = entersWithoutPlace (v .market) x
+  abbrev noPlace : Bool
+  noPlace = eventNeedsNoPlace (v .market) x
 
   abbrev before : Option ℕ
   before = refusalWith entryBefore v x b
@@ -249,107 +244,103 @@ module _ (v : Venue) (x : Event) (b : ℕ) where
   before-given : (y : Outcome (List Report)) → stepWith entryBefore v x b .answer ≡ y → before ≡ refusalGiven y
   before-given y h = sym (step-given before v x) ∙ ap refusalGiven h
 
-  same-step : (r : Option ℕ) → refusal v x b ≡ r → step v x b ≡ stepUnless r v x
+  step-by : (r : Option ℕ) → refusal v x b ≡ r → step v x b ≡ stepUnless r v x
   unfolding step
-  same-step r h = ap (λ (y : Option ℕ). stepUnless y v x) h
+  step-by r h = ap (λ (y : Option ℕ). stepUnless y v x) h
 
-  -- what isn't refused
-  record Unrefused : Type 0 where
-    refusal : refusal v x b ≡ none
-    sound : SoundVenue v
+  module _ (r : refusal v x b ≡ none) where
+    known-sound : SoundVenue v
+    known-sound = sound-venue v (none-known v x b r .sound)
 
-  not-refused : (rs : List Report) → step v x b .answer ≡ gives rs → Unrefused
-  not-refused rs h =
-      let f = now-given (gives rs) h in
-      let k : NotRefused v x b = subst (λ (r : Option ℕ). Unless r (NotRefused v x b)) f (refusal-known v x b) in
-      record { refusal = f; sound = sound-venue v (k .sound) }
+    takes-none : T noPlace → NoPlaceTaken (v .orders) (step v x b .venue .orders)
+    takes-none t = rw (step-by none r) (event-takes-none v known-sound x t)
 
-  takes-none : Unrefused → T withoutPlace → NoPlaceTaken (v .lastId) (v .orders) (step v x b .venue .orders)
-  takes-none u t = rw (same-step none (u .refusal)) (event-takes-none v x (u .sound) t)
+    -- it was refused before, so there is no room
+    no-room : {n : ℕ} → before ≡ some n → length (v .orders) < mostOrders → ⊥
+    no-room h l = let e = sym h ∙ refusal-with-room v l x b ∙ r in let y : _≡_ {A = ℕ} 0 1 = cc in omega arith
 
-  -- it was refused before, so 256 rest
-  is-full : Unrefused → {n : ℕ} → before ≡ some n → length (v .orders) ≡ mostOrders
-  is-full u h =
-      let some-room : length (v .orders) < mostOrders → ⊥ = λ l. let e = sym h ∙ refusal-same v l x b ∙ u .refusal in let y : _≡_ {A = ℕ} 0 1 = cc in omega arith in
-      omega (arith, u .sound .book .few, some-room)
-
-  let-in : (rs : List Report) (n : ℕ) → step v x b .answer ≡ gives rs → stepWith entryBefore v x b .answer ≡ refuses n → LetIn v x n (step v x b)
-  let-in rs n h g =
-      let u = not-refused rs h in
-      let f = before-given (refuses n) g in
-      let q = lifted-none withoutPlace n (ap (lifted withoutPlace) (sym f) ∙ sym (refusal-lifted v x b) ∙ u .refusal) in
-      record {
-        refusedWith7 = q .1;
-        full = is-full u f;
-        noPlace = q .0;
-        handled = same-step none (u .refusal);
-        atMost256 = omega (arith, takes-none u (q .0) .noMore, u .sound .book .few);
-      }
+    newly-accepted : (n : ℕ) → before ≡ some n → NewlyAccepted v x n (step v x b .venue .orders)
+    newly-accepted n f =
+        let q = none-now noPlace n (ap (without7 noPlace) (sym f) ∙ sym (refusal-without7 v x b) ∙ r) in
+        let few = known-sound .book .few in
+        record {
+          refusedWith7 = q .1;
+          full = omega (arith, few, no-room f);
+          noPlace = q .0;
+          atMost256 = omega (arith, takes-none (q .0) .noMore, few);
+        }
 
 pub full-books-trade : FullBooksTrade
 full-books-trade v x b =
-    let z = withoutPlace v x b in
+    let z = noPlace v x b in
+    let r = refusal-without7 v x b in
     record {
-      refusal = refusal-lifted v x b;
-      acceptedBefore = λ rs h. let f = before-given v x b (gives rs) h in same-step v x b _ (refusal-lifted v x b ∙ ap (lifted z) f ∙ sym f);
-      refusedNow = λ n h. let f = now-given v x b (refuses n) h in same-step v x b _ (f ∙ sym (lifted-given z _ n (sym (refusal-lifted v x b) ∙ f)));
-      letIn = let-in v x b;
+      refusal = r;
+      acceptedBefore = λ rs h. let f = before-given v x b (gives rs) h in step-by v x b _ (r ∙ ap (without7 z) f ∙ sym f);
+      refusedNow = λ n h. let f = now-given v x b (refuses n) h in step-by v x b _ (f ∙ sym (given-before z _ n (sym r ∙ f)));
+      newlyAccepted = λ rs n h g. newly-accepted v x b (now-given v x b (gives rs) h) n (before-given v x b (refuses n) g);
     }
 
 pub never-takes-a-place : NeverTakesAPlace
-never-takes-a-place v x b rs t h = takes-none v x b (not-refused v x b rs h) t
+never-takes-a-place v x b rs t h = takes-none v x b (now-given v x b (gives rs) h) t
 
 -- of a call
 
-count-given : (y : Outcome (List Report)) → refusalGiven (countOf y) ≡ refusalGiven y
-count-given (gives rs) = refl
-count-given (refuses n) = refl
-
 -- the step of the words and that of before
 record Called (v : Venue) (x : Event) (now was : Step) : Type 0 where
-  refusal : refusalGiven (now .answer) ≡ lifted (entersWithoutPlace (v .market) x) (refusalGiven (was .answer))
+  refusal : refusalGiven (now .answer) ≡ without7 (eventNeedsNoPlace (v .market) x) (refusalGiven (was .answer))
   acceptedBefore : (rs : List Report) → was .answer ≡ gives rs → now ≡ was
-  taken : (rs : List Report) → T (entersWithoutPlace (v .market) x) → now .answer ≡ gives rs → NoPlaceTaken (v .lastId) (v .orders) (now .venue .orders)
+  refusedNow : (n : ℕ) → now .answer ≡ refuses n → now ≡ was
+  newlyAccepted : (rs : List Report) (n : ℕ) → now .answer ≡ gives rs → was .answer ≡ refuses n → NewlyAccepted v x n (now .venue .orders)
+  taken : (rs : List Report) → T (eventNeedsNoPlace (v .market) x) → now .answer ≡ gives rs → NoPlaceTaken (v .orders) (now .venue .orders)
 
 called : (w : List ℕ) (x : Event) (n : ℕ) → Called (venueOf w) x (stepIn w x n) (stepInWith entryBefore w x n)
 unfolding step
 called w x n =
     let v = venueOf w in
-    let z = entersWithoutPlace (v .market) x in
+    let z = eventNeedsNoPlace (v .market) x in
     let f = full-books-trade v x n in
     in-words
     (Called v x)
-    entryBefore
     w
     x
     n
+    (stepWith entryBefore v x n)
     (record {
-      refusal = step-given (refusal v x n) v x ∙ f .refusal ∙ ap (lifted z) (sym (step-given (refusalWith entryBefore v x n) v x));
+      refusal = step-given (refusal v x n) v x ∙ f .refusal ∙ ap (without7 z) (sym (step-given (refusalWith entryBefore v x n) v x));
       acceptedBefore = f .acceptedBefore;
+      refusedNow = f .refusedNow;
+      newlyAccepted = f .newlyAccepted;
       taken = never-takes-a-place v x n;
     })
     (record {
-      refusal = sym (other-kept z 16 refl);
+      refusal = sym (other-stays z 16 refl);
       acceptedBefore = λ rs h. refl;
+      refusedNow = λ k h. refl;
+      newlyAccepted = λ rs k h g. let y : _≡_ {A = ℕ} 0 1 = cc in absurd (omega arith);
       taken = λ rs t h. let y : _≡_ {A = ℕ} 0 1 = cc in absurd (omega arith);
     })
 
--- a count stands for reports
-counted : (y : Outcome (List Report)) (n : ℕ) → gives n ≡ countOf y → (rs : List Report) × (y ≡ gives rs)
-counted (gives rs) n h = (rs, refl)
-counted (refuses k) n h = let y : _≡_ {A = ℕ} 0 1 = cc in absurd (omega arith)
+-- a count stands for reports, and a refusal for itself
+count-gives : (y : Outcome (List Report)) (n : ℕ) → gives n ≡ countOf y → (rs : List Report) × (y ≡ gives rs)
+count-gives (gives rs) n h = (rs, refl)
+count-gives (refuses k) n h = let y : _≡_ {A = ℕ} 0 1 = cc in absurd (omega arith)
+
+count-refuses : (y : Outcome (List Report)) (n : ℕ) → refuses n ≡ countOf y → y ≡ refuses n
+count-refuses (gives rs) n h = let y : _≡_ {A = ℕ} 0 1 = cc in absurd (omega arith)
+count-refuses (refuses k) n h = let e : k ≡ n = cc in ap refuses e
 
 pub full-books-trade-in-calls : FullBooksTradeInCalls
 unfolding venueOf
 full-books-trade-in-calls w x b answer w′ b′ a =
     let now = stepIn w x (length b) in
     let r = called w x (length b) in
+    let after : resting w′ ≡ now .venue .orders = ap (λ (v : Venue). v .orders) (a .venue) in
+    let reports : (count : ℕ) → answer ≡ gives count → (rs : List Report) × (now .answer ≡ gives rs) = λ count h. count-gives (now .answer) count (sym h ∙ a .answers) in
     record {
       refusal = ap refusalGiven (a .answers) ∙ count-given (now .answer) ∙ r .refusal;
-      acceptedBefore = λ rs h.
-          let e = r .acceptedBefore rs h in
-          record { answers = a .answers ∙ ap (λ (s : Step). countOf (s .answer)) e; buffer = a .buffer ∙ ap (λ (s : Step). bufferAfter b (s .answer)) e; venue = a .venue ∙ ap (λ (s : Step). s .venue) e };
-      noPlaceTaken = λ count t h.
-          let c = counted (now .answer) count (sym h ∙ a .answers) in
-          subst (λ (os : List Order). NoPlaceTaken (venueOf w .lastId) (resting w) os) (sym (ap (λ (v : Venue). v .orders) (a .venue))) (r .taken (c .0) t (c .1));
+      acceptedBefore = λ rs h. call-does a (r .acceptedBefore rs h);
+      refusedNow = λ n h. call-does a (r .refusedNow n (count-refuses (now .answer) n (sym h ∙ a .answers)));
+      newlyAccepted = λ count n h g. let c = reports count h in subst (NewlyAccepted (venueOf w) x n) (sym after) (r .newlyAccepted (c .0) n (c .1) g);
+      noPlaceTaken = λ count t h. let c = reports count h in subst (NoPlaceTaken (resting w)) (sym after) (r .taken (c .0) t (c .1));
     }

@@ -57,6 +57,7 @@ use Rattle.engine.proofs.demand3.WorkingKeeps.{afterRemainder-all, work
 use Rattle.engine.proofs.demand3.SoundLaws.{SoundBook, book-distinct, book-others, RemainderOf, remainder-known, passOne-sound, SoundVenue, sound-venue, market-permits}
 use Rattle.engine.proofs.demand3.CallLaws.{accepted-call, Readable, step-readable, bytes-read, callOf, fresh-run}
 use Rattle.engine.proofs.requests.PassLaws.{afterMove-all, thePass-all}
+use Rattle.engine.proofs.requests.WordStepLaws.{in-words, call-does}
 
 -- No firm trades with itself
 
@@ -364,28 +365,20 @@ kind-one-as-before v e n = go (refusal v (entry e) n)
     go none = kind-one-done v e
     go (some k) = refused-alike k v (entry e)
 
--- on words that are laid out as no venue, 16 as before
-in-before : (w : List ℕ) (e : Event) (n : ℕ) → All Unowned (venueOf w .orders) → NamesNoOwner e → (stepIn w e n ≡ unownedStepIn w e n) × All Unowned ((stepIn w e n) .venue .orders)
-unfolding stepIn pick
-in-before w e n h o = go (isBook w)
-  where
-    broken : Step
-    broken = record { answer = refuses 16; venue = venueOf w }
+-- of a call, the step of the words and that of before
+abbrev SameUnowned : Step → Step → Type 0
+SameUnowned s t = record { same : s ≡ t; unowned : All Unowned (s .venue .orders) }
 
-    go : (laid : Bool) → (pick laid (step (venueOf w) e n) broken ≡ pick laid (unownedStep (venueOf w) e n) broken) × All Unowned ((pick laid (step (venueOf w) e n) broken) .venue .orders)
-    go true = let r = unowned-as-before (venueOf w) e n h o in (r .same, r .unowned)
-    go false = (refl, h)
+in-before : (w : List ℕ) (e : Event) (n : ℕ) → All Unowned (venueOf w .orders) → NamesNoOwner e → SameUnowned (stepIn w e n) (unownedStepIn w e n)
+in-before w e n h o =
+    let r = unowned-as-before (venueOf w) e n h o in
+    in-words SameUnowned w e n (unownedStep (venueOf w) e n) (record { same = r .same; unowned = r .unowned }) (record { same = refl; unowned = h })
 
 pub unowned-calls-as-before : UnownedCallsAsBefore
 unfolding venueOf
 unowned-calls-as-before w e b answer w′ b′ a h o =
     let r = in-before w e (length b) h o in
-    record {
-      answers = a .answers ∙ ap (λ (s : Step). countOf (s .answer)) (r .0);
-      buffer = a .buffer ∙ ap (λ (s : Step). bufferAfter b (s .answer)) (r .0);
-      venue = a .venue ∙ ap (λ (s : Step). s .venue) (r .0);
-      unowned = subst (All Unowned) (sym (ap (λ (v : Venue). v .orders) (a .venue))) (r .1);
-    }
+    record { does = call-does a (r .same); unowned = subst (All Unowned) (sym (ap (λ (v : Venue). v .orders) (a .venue))) (r .unowned) }
 
 -- As without its owner's orders
 

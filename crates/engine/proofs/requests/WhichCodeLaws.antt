@@ -7,7 +7,6 @@ use mathlib.Core.Option.{Option, none, some}
 use lib.ListN.{length}
 use Rattle.numbers.specs.Tests.{pick, conj}
 use Rattle.numbers.specs.Answers.{Outcome, gives, refuses}
-use Rattle.book.specs.rules.Words.{isBook}
 use Rattle.engine.specs.declared.Entry.{Entry}
 use Rattle.engine.specs.declared.Event.{Event}
 use Rattle.engine.specs.declared.Event.the-variants.{Entry as entry, Cancel as cancel, Bid as bid, Tape as tape, DayEnd as dayEnd, OwnedEntry as ownedEntry}
@@ -18,8 +17,8 @@ use Rattle.engine.specs.rules.Run.{Step, stepUnless, step}
 use Rattle.engine.specs.rules.Answers.{countOf, bufferAfter}
 use Rattle.engine.specs.rules.Layout.{venueOf, stepIn}
 use Rattle.engine.specs.claims.WhichCode.{codesBefore, entryBefore, readAs5, refusalRead, answerRead, CodesAsBefore, CallsAsBefore}
-use Rattle.engine.specs.claims.OtherRefusals.{kindWith, refusalWith, stepInWith}
-use Rattle.engine.proofs.requests.OtherRefusalLaws.{in-words}
+use Rattle.engine.specs.claims.OtherRefusals.{kindWith, refusalWith, stepWith, stepInWith}
+use Rattle.engine.proofs.requests.WordStepLaws.{in-words}
 
 -- of the refusals
 
@@ -117,7 +116,7 @@ called : (w : List ℕ) (x : Event) (n : ℕ) → SameStep (stepIn w x n) (stepI
 unfolding pick
 called w x n =
     let y = codes-as-before (venueOf w) x n in
-    in-words SameStep entryBefore w x n (record { answer = y .answer; venue = y .venue }) (record { answer = refl; venue = refl })
+    in-words SameStep w x n (stepWith entryBefore (venueOf w) x n) (record { answer = y .answer; venue = y .venue }) (record { answer = refl; venue = refl })
 
 pub calls-as-before : CallsAsBefore
 calls-as-before w x b answer w′ b′ a =

@@ -14,7 +14,7 @@ use Rattle.engine.specs.declared.OpenAnswer.{OpenAnswer}
 use Rattle.engine.specs.rules.Reports.{Report}
 use Rattle.engine.specs.rules.Venue.{opening}
 use Rattle.engine.specs.rules.Refusals.{leastBuffer}
-use Rattle.engine.specs.rules.Run.{Answered}
+use Rattle.engine.specs.rules.Run.{Step, Answered}
 use Rattle.engine.specs.rules.Records.{recordNumbers, reportsUpTo}
 use Rattle.engine.specs.claims.RoundTrips.{Word}
 use Rattle.engine.specs.claims.Account.{accountOf}
@@ -44,6 +44,12 @@ pub record Applied (w : List ℕ) (e : Event) (b : List ℕ) (answer : Outcome �
   pub layout : T (isBook w) → T (isBook w′)
   pub same : SameSpare w w′
   pub refused : (n : ℕ) → answer ≡ refuses n → w′ ≡ w
+
+-- what a call does is that of the step s: its answer, the report buffer and the venue
+pub record CallDoes (s : Step) (b : List ℕ) (answer : Outcome ℕ) (w′ b′ : List ℕ) : Type 0 where
+  pub answers : answer ≡ countOf (s .answer)
+  pub buffer : b′ ≡ bufferAfter b (s .answer)
+  pub venue : venueOf w′ ≡ s .venue
 
 -- Chains of calls
 

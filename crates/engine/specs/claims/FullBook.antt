@@ -1,5 +1,5 @@
--- Document 02, No. 8, a full book still trades, as claims: against the place of before, 7 is lifted from the entries that need no place and from nothing else, and
--- such an entry takes none. Assumes nothing.
+-- Document 02, No. 8, a full book still trades, as claims: against the place of before, an entry that needs no place no longer meets 7, and nothing else changes; such
+-- an entry takes none. Assumes nothing.
 use Prim.Native.Nat.{ℕ, _≤_}
 use mathlib.Core.Path.{_≡_}
 use mathlib.Core.Bool.{Bool, false, not, _&&_, _||_}
@@ -10,6 +10,7 @@ use lib.ListN.{length}
 use Rattle.numbers.specs.Tests.{pick, All}
 use Rattle.numbers.specs.Answers.{Outcome, gives, refuses}
 use Rattle.book.specs.declared.Order.{Order}
+use Rattle.book.specs.rules.Orders.{find}
 use Rattle.book.specs.rules.Words.{resting}
 use Rattle.engine.specs.declared.Market.{Market}
 use Rattle.engine.specs.declared.Entry.{Entry}
@@ -20,11 +21,10 @@ use Rattle.engine.specs.rules.Reports.{Report}
 use Rattle.engine.specs.rules.Working.{isMarket}
 use Rattle.engine.specs.rules.Venue.{Venue}
 use Rattle.engine.specs.rules.Sound.{mostOrders}
-use Rattle.engine.specs.rules.Refusals.{refuseUnless, firstOf, refusalOfTerms, refusalOfCodes, needsNoPlace, refusal}
-use Rattle.engine.specs.rules.Run.{Step, stepUnless, step}
-use Rattle.engine.specs.rules.Answers.{countOf, bufferAfter}
+use Rattle.engine.specs.rules.Refusals.{refuseUnless, firstOf, refusalOfTerms, refusalOfCodes, needsNoPlace, rests, refusal}
+use Rattle.engine.specs.rules.Run.{step}
 use Rattle.engine.specs.rules.Layout.{venueOf}
-use Rattle.engine.specs.claims.Calls.{Applied}
+use Rattle.engine.specs.claims.Calls.{Applied, CallDoes}
 use Rattle.engine.specs.claims.Fill.{refusalGiven}
 use Rattle.engine.specs.claims.OtherRefusals.{EntryRefusals, refusalWith, stepWith, stepInWith}
 
@@ -36,14 +36,14 @@ NoPlaceByTerms =
     (m : Market) (e : Entry) →
     needsNoPlace m e ≡ (eqb (e .life) 1 || (isMarket (e .price) && not (restricted m (e .mark) && ltb 0 (m .bid))))
 
--- an entry, of either kind, that needs no place
-abbrev pub entersWithoutPlace : Market → Event → Bool
-entersWithoutPlace m (entry e) = needsNoPlace m e
-entersWithoutPlace m (cancel i) = false
-entersWithoutPlace m (bid b) = false
-entersWithoutPlace m (tape p) = false
-entersWithoutPlace m (dayEnd c) = false
-entersWithoutPlace m (ownedEntry e k) = needsNoPlace m e
+-- an event that needs no place: an entry, of either kind, that needs none
+abbrev pub eventNeedsNoPlace : Market → Event → Bool
+eventNeedsNoPlace m (entry e) = needsNoPlace m e
+eventNeedsNoPlace m (cancel i) = false
+eventNeedsNoPlace m (bid b) = false
+eventNeedsNoPlace m (tape p) = false
+eventNeedsNoPlace m (dayEnd c) = false
+eventNeedsNoPlace m (ownedEntry e k) = needsNoPlace m e
 
 -- As before
 
@@ -59,30 +59,28 @@ abbrev pub entryBefore : EntryRefusals
 entryBefore v e ofOwner =
     firstOf (refusalOfTerms (v.market.step) (e .price) (e .shares)) (firstOf (refusalOfCodes e) (firstOf ofOwner (placeBefore v e)))
 
--- 7 lifted from what enters without a place
-abbrev pub lifted : Bool → Option ℕ → Option ℕ
-lifted noPlace none = none
-lifted noPlace (some n) = pick (noPlace && eqb n 7) none (some n)
+-- a refusal of before, and none for a 7 where no place is needed
+abbrev pub without7 : Bool → Option ℕ → Option ℕ
+without7 noPlace none = none
+without7 noPlace (some n) = pick (noPlace && eqb n 7) none (some n)
 
--- an event that was refused with n and is accepted now
-pub record LetIn (v : Venue) (x : Event) (n : ℕ) (now : Step) : Type 0 where
+-- an event that was refused with n and is accepted now, and the orders after it
+pub record NewlyAccepted (v : Venue) (x : Event) (n : ℕ) (after : List Order) : Type 0 where
   pub refusedWith7 : n ≡ 7
   pub full : length (v .orders) ≡ mostOrders
-  pub noPlace : T (entersWithoutPlace (v .market) x)
-  -- "It is now handled as any other": as every event that isn't refused
-  pub handled : now ≡ stepUnless none v x
-  pub atMost256 : length (now .venue .orders) ≤ mostOrders
+  pub noPlace : T (eventNeedsNoPlace (v .market) x)
+  pub atMost256 : length after ≤ mostOrders
 
 pub record FullBookTrades (v : Venue) (x : Event) (b : ℕ) : Type 0 where
   -- "only the remaining orders meet 7"; of every other refusal, and of every other event, nothing changes
-  pub refusal : refusal v x b ≡ lifted (entersWithoutPlace (v .market) x) (refusalWith entryBefore v x b)
+  pub refusal : refusal v x b ≡ without7 (eventNeedsNoPlace (v .market) x) (refusalWith entryBefore v x b)
   -- "Every entry that was accepted before gets the same reports and leaves the same venue"
   pub acceptedBefore : (rs : List Report) → stepWith entryBefore v x b .answer ≡ gives rs → step v x b ≡ stepWith entryBefore v x b
   -- what is refused now was refused so before
   pub refusedNow : (n : ℕ) → step v x b .answer ≡ refuses n → step v x b ≡ stepWith entryBefore v x b
-  pub letIn :
+  pub newlyAccepted :
       (rs : List Report) (n : ℕ) → step v x b .answer ≡ gives rs → stepWith entryBefore v x b .answer ≡ refuses n →
-      LetIn v x n (step v x b)
+      NewlyAccepted v x n (step v x b .venue .orders)
 
 -- of every venue, event and buffer length
 abbrev pub FullBooksTrade : Type 0
@@ -90,32 +88,33 @@ FullBooksTrade = (v : Venue) (x : Event) (b : ℕ) → FullBookTrades v x b
 
 -- No place is taken
 
--- after an accepted entry that needs no place no more orders rest than before, each under an id that was given before
-pub record NoPlaceTaken (lastId : ℕ) (before after : List Order) : Type 0 where
+-- an order rested before under its id
+abbrev pub Rested : List Order → Order → Type 0
+Rested before o = T (rests (find (o .id) before))
+
+-- after an accepted entry that needs no place no more orders rest than before, and each of them rested before
+pub record NoPlaceTaken (before after : List Order) : Type 0 where
   pub noMore : length after ≤ length before
-  pub older : All (λ (o : Order). o.id ≤ lastId) after
+  pub rested : All (Rested before) after
 
 abbrev pub NeverTakesAPlace : Type 0
 NeverTakesAPlace =
-    (v : Venue) (x : Event) (b : ℕ) (rs : List Report) → T (entersWithoutPlace (v .market) x) → step v x b .answer ≡ gives rs →
-    NoPlaceTaken (v .lastId) (v .orders) (step v x b .venue .orders)
+    (v : Venue) (x : Event) (b : ℕ) (rs : List Report) → T (eventNeedsNoPlace (v .market) x) → step v x b .answer ≡ gives rs →
+    NoPlaceTaken (v .orders) (step v x b .venue .orders)
 
--- Of every call of apply, on any words and any buffer
-
--- what a call does is that of a step
-pub record CallDoes (s : Step) (b : List ℕ) (answer : Outcome ℕ) (w′ b′ : List ℕ) : Type 0 where
-  pub answers : answer ≡ countOf (s .answer)
-  pub buffer : b′ ≡ bufferAfter b (s .answer)
-  pub venue : venueOf w′ ≡ s .venue
+-- The same of every call of apply, on any words and any buffer
 
 pub record FullBookTradesInCall (w : List ℕ) (x : Event) (b : List ℕ) (answer : Outcome ℕ) (w′ b′ : List ℕ) : Type 0 where
-  pub refusal : refusalGiven answer ≡ lifted (entersWithoutPlace (venueOf w .market) x) (refusalGiven (stepInWith entryBefore w x (length b) .answer))
+  pub refusal : refusalGiven answer ≡ without7 (eventNeedsNoPlace (venueOf w .market) x) (refusalGiven (stepInWith entryBefore w x (length b) .answer))
   pub acceptedBefore :
       (rs : List Report) → stepInWith entryBefore w x (length b) .answer ≡ gives rs →
       CallDoes (stepInWith entryBefore w x (length b)) b answer w′ b′
+  pub refusedNow : (n : ℕ) → answer ≡ refuses n → CallDoes (stepInWith entryBefore w x (length b)) b answer w′ b′
+  pub newlyAccepted :
+      (count n : ℕ) → answer ≡ gives count → stepInWith entryBefore w x (length b) .answer ≡ refuses n →
+      NewlyAccepted (venueOf w) x n (resting w′)
   pub noPlaceTaken :
-      (count : ℕ) → T (entersWithoutPlace (venueOf w .market) x) → answer ≡ gives count →
-      NoPlaceTaken (venueOf w .lastId) (resting w) (resting w′)
+      (count : ℕ) → T (eventNeedsNoPlace (venueOf w .market) x) → answer ≡ gives count → NoPlaceTaken (resting w) (resting w′)
 
 abbrev pub FullBooksTradeInCalls : Type 0
 FullBooksTradeInCalls =

@@ -4,7 +4,6 @@ use mathlib.Core.List.{List}
 use mathlib.Core.Option.{Option, none}
 use lib.Dec.{leb, ltb}
 use Rattle.numbers.specs.Tests.{pick}
-use Rattle.numbers.specs.Answers.{refuses}
 use Rattle.book.specs.rules.Words.{isBook}
 use Rattle.engine.specs.declared.Entry.{Entry}
 use Rattle.engine.specs.declared.Event.{Event}
@@ -13,7 +12,7 @@ use Rattle.engine.specs.rules.Venue.{Venue}
 use Rattle.engine.specs.rules.Sound.{mostEvents, sound}
 use Rattle.engine.specs.rules.Refusals.{refuseUnless, refusalOfOwner, refusalOfKind, leastBuffer}
 use Rattle.engine.specs.rules.Run.{Step, stepUnless}
-use Rattle.engine.specs.rules.Layout.{venueOf}
+use Rattle.engine.specs.rules.Layout.{venueOf, refusedLayout}
 
 -- the refusals of an entry, given those of its owner
 abbrev pub EntryRefusals : Type 0
@@ -39,8 +38,5 @@ abbrev pub stepWith : EntryRefusals → Venue → Event → ℕ → Step
 stepWith ofEntry v x n = stepUnless (refusalWith ofEntry v x n) v x
 
 -- of the venue that words mean; words that are laid out as none are refused with 16
-abbrev pub noVenue : List ℕ → Step
-noVenue w = record { answer = refuses 16; venue = venueOf w }
-
 abbrev pub stepInWith : EntryRefusals → List ℕ → Event → ℕ → Step
-stepInWith ofEntry w x n = pick (isBook w) (stepWith ofEntry (venueOf w) x n) (noVenue w)
+stepInWith ofEntry w x n = pick (isBook w) (stepWith ofEntry (venueOf w) x n) (refusedLayout w)

@@ -31,11 +31,10 @@ use Rattle.engine.specs.rules.Venue.{Venue, opening, effectOfCancel, res
 use Rattle.engine.specs.rules.Refusals.{refusal}
 use Rattle.engine.specs.rules.Run.{Step, step, Call, Answered, Run, run}
 use Rattle.engine.specs.rules.Records.{reportsUpTo}
-use Rattle.engine.specs.rules.Answers.{countOf, bufferAfter}
-use Rattle.engine.specs.rules.Layout.{venueOf, openedWords}
+use Rattle.engine.specs.rules.Layout.{venueOf, refusedLayout, openedWords}
 use Rattle.engine.specs.claims.RoundTrips.{Word}
 use Rattle.engine.specs.claims.Account.{setAt}
-use Rattle.engine.specs.claims.Calls.{Applied, AppliedCall, Chain, answeredOf}
+use Rattle.engine.specs.claims.Calls.{Applied, CallDoes, AppliedCall, Chain, answeredOf}
 
 -- The account of owners
 
@@ -208,7 +207,7 @@ unownedUnless none v e =
     let x : Effect = unownedEffect (marketAfter e (v .market)) v e in
     record { answer = gives (x .reports); venue = venueAfter v e x }
 
--- it is refused as now; that kind 1 has no refusal for an owner is No. 3's claim too (`kindWith`)
+-- it is refused as now; that kind 1 has no refusal for an owner is No. 3's claim and No. 8's too (`kindWith`)
 abbrev pub unownedStep : Venue → Event → ℕ → Step
 unownedStep v e n = unownedUnless (refusal v e n) v e
 
@@ -238,12 +237,10 @@ KindOneAsBefore = (v : Venue) (e : Entry) (n : ℕ) → step v (entry e) n ≡ u
 
 -- the same of every call of apply, on any words and any buffer
 abbrev pub unownedStepIn : List ℕ → Event → ℕ → Step
-unownedStepIn w e n = pick (isBook w) (unownedStep (venueOf w) e n) (record { answer = refuses 16; venue = venueOf w })
+unownedStepIn w e n = pick (isBook w) (unownedStep (venueOf w) e n) (refusedLayout w)
 
 pub record UnownedCallAsBefore (w : List ℕ) (e : Event) (b : List ℕ) (answer : Outcome ℕ) (w′ b′ : List ℕ) : Type 0 where
-  pub answers : answer ≡ countOf (unownedStepIn w e (length b) .answer)
-  pub buffer : b′ ≡ bufferAfter b (unownedStepIn w e (length b) .answer)
-  pub venue : venueOf w′ ≡ unownedStepIn w e (length b) .venue
+  pub does : CallDoes (unownedStepIn w e (length b)) b answer w′ b′
   pub unowned : All Unowned (resting w′)
 
 abbrev pub UnownedCallsAsBefore : Type 0

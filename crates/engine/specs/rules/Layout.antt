@@ -43,5 +43,8 @@ unfoldable pub openedWords : ℕ → ℕ → List ℕ
 openedWords s close = pick (isStep s && legal s close) (freshWords s close) (replicate venueWords 0)
 
 -- one event of the venue that the words mean; words that are laid out as none are refused with 16
+abbrev pub refusedLayout : List ℕ → Step
+refusedLayout w = record { answer = refuses 16; venue = venueOf w }
+
 unfoldable pub stepIn : List ℕ → Event → ℕ → Step
-stepIn w e n = pick (isBook w) (step (venueOf w) e n) (record { answer = refuses 16; venue = venueOf w })
+stepIn w e n = pick (isBook w) (step (venueOf w) e n) (refusedLayout w)

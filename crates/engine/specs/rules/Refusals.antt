@@ -65,11 +65,15 @@ refusalOfOwner k =
 abbrev pub needsNoPlace : Market → Entry → Bool
 needsNoPlace m e = eqb (lifeOf m (e .mark) (e .price) (e .life)) 1
 
+-- it has a place, or needs none
+abbrev pub hasPlace : Venue → Entry → Bool
+hasPlace v e = ltb (length (v .orders)) mostOrders || needsNoPlace (v .market) e
+
 -- its place: "6 id not above the last accepted id (0 never is); 7 if 256 orders rest"; No. 8: "only the remaining orders meet 7"
 unfoldable pub refusalOfPlace : Venue → Entry → Option ℕ
 refusalOfPlace v e =
     refuseUnless (ltb (v .lastId) (e .id)) 6
-    (refuseUnless (ltb (length (v .orders)) mostOrders || needsNoPlace (v .market) e) 7
+    (refuseUnless (hasPlace v e) 7
     none)
 
 -- No. 4: "price, shares and mark are refused as in an entry"

@@ -18,9 +18,10 @@ use Rattle.engine.specs.declared.Move.{Move}
 use Rattle.engine.specs.declared.Move.the-variants.{Stay}
 use Rattle.engine.specs.rules.Market.{restricted}
 use Rattle.engine.specs.rules.Reports.{Report, repriced}
-use Rattle.engine.specs.rules.Working.{Worked, remainder, afterRemainder, happened, work}
+use Rattle.engine.specs.rules.Working.{lifeOf, Worked, remainder, afterRemainder, happened, work}
 use Rattle.engine.specs.rules.Pass.{Effect, moveOf, passOne}
 use Rattle.engine.specs.rules.Venue.{Venue, thePass}
+use Rattle.engine.specs.rules.Sound.{mostOrders}
 use Rattle.engine.specs.rules.Records.{reportsBytes}
 use Rattle.engine.specs.steps.Memory.{Ordered, Becomes, Does, withOrders, finished}
 use Rattle.engine.specs.rules.Layout.{venueOf}
@@ -30,11 +31,15 @@ abbrev pub entryBy : Entry → ℕ → Event
 entryBy e zero = entry e
 entryBy e (suc k) = ownedEntry e (suc k)
 
--- an order of this life has a place where so many rest: fewer than 256 do, or it is immediate or cancel (No. 8)
+-- an order of this life has a place where so many rest, or needs none: fewer than 256 rest, or it is immediate or cancel (No. 8)
 abbrev pub HasPlace : ℕ → ℕ → Type 0
-HasPlace life count = (life ≡ 1 → ⊥) → count < 256
+HasPlace life count = (life ≡ 1 → ⊥) → count < mostOrders
 
--- the order o may enter the book of the words w: no order rests under its id, which is above 0, and it has a place
+-- the order of an entry does
+abbrev pub EntryHasPlace : Venue → Entry → Type 0
+EntryHasPlace v e = HasPlace (lifeOf (v .market) (e .mark) (e .price) (e .life)) (length (v .orders))
+
+-- the order o may enter the book of the words w: no order rests under its id, which is above 0, and it has a place or needs none
 pub record MayEnter (o : Order) (w : List ℕ) : Type 0 where
   pub ordered : Ordered w
   pub apart : All (λ (x : Order). x .id ≡ o .id → ⊥) (resting w)

@@ -9,8 +9,8 @@ use Rattle.engine.specs.claims.FullBook.{FullBookTradesInCall}
 use Rattle.host.specs.rules.Host.{outcomeOf}
 use Rattle.host.specs.claims.Calls.{HostApplied}
 
--- a call of venue_apply on any words whose record reads as an event: against the place of before, 7 is lifted from the entries that need no place and from
--- nothing else; what was accepted before gets the same number and report bytes and leaves the same venue; an entry that needs no place takes none
+-- a call of venue_apply on any words whose record reads as an event: against the place of before, an entry that needs no place no longer meets 7, and nothing else
+-- changes; what was accepted before gets the same number and report bytes and leaves the same venue; an entry that needs no place takes none
 abbrev pub FullBooksTradeForHosts : Type 0
 FullBooksTradeForHosts =
     (w bytes b : List ℕ) (answer : ℕ) (w′ b′ : List ℕ) → HostApplied w bytes b answer w′ b′ →

@@ -5,7 +5,7 @@ use Rattle.engine.specs.rules.Reports.{cancelled}
 use Rattle.engine.specs.rules.Working.{afterRemainder}
 use Rattle.engine.proofs.refinement.StepLaws.{room-one, does-none, does-report}
 use Rattle.engine.proofs.refinement.WorkingSteps.{rests-or-cancels, remainder-room, does-insert}
-use Rattle.engine.proofs.demand3.SoundLaws.{rests-later}
+use Rattle.engine.proofs.demand3.SoundLaws.{rests-not-immediate}
 use borrow.Author.Needs.{needs}
 use Rattle.engine.proofs.working.rest_or_cancel.Statement.{statement}
 use Rattle.engine.proofs.working.rest_or_cancel.Tie as tie
@@ -36,7 +36,7 @@ insert-requires : tie.Need-insert-requires
 insert-requires c κs =
     let s = c .before .before .before .before .before .before in
     let k = s .pre .0 in
-    (k .ordered .book, k .place (rests-later (s .args .o) (sym (c .before .enum-told2 .given .1) ∙ c .before .before .before .remainder-of .ensures)), k .ordered .rises)
+    (k .ordered .book, k .place (rests-not-immediate (s .args .o) (sym (c .before .enum-told2 .given .1) ∙ c .before .before .before .remainder-of .ensures)), k .ordered .rises)
 
 returns : tie.Need-returns
 unfolding afterRemainder
