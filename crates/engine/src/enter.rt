@@ -7,8 +7,6 @@ use book::Order;
 use book::words;
 ghost use mathlib.Core.Path.{_≡_};
 ghost use Prim.Native.Nat.{_+_, _<_};
-ghost use lib.ListN.{length};
-ghost use Rattle.book.specs.rules.Words.{resting};
 ghost use Rattle.engine.specs.rules.Working.{orderOf};
 ghost use Rattle.engine.specs.steps.Memory.{Room, effectIn, MayAccept, Accepts};
 ghost use Rattle.engine.specs.rules.Layout.{venueOf};

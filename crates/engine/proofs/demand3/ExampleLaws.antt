@@ -39,9 +39,9 @@ firms-played =
     (record { entryMeets = refl; leftResting = refl; passMeets = refl; badOwners = refl; behindStays = refl; immediate = refl; optedOut = refl; market = refl; nobodys = refl; accountOfList = (refl, refl) }, (record { entryMeets = refl; leftResting = refl; passMeets = refl; badOwners = refl; behindStays = refl; immediate = refl; optedOut = refl; market = refl; nobodys = refl; accountOfList = (refl, refl) }, tt))
 
 pub full-book-played : FullBookPlayedAtBoth
-unfolding Tests.pick Tests.every Prices.isStep Prices.legal Prices.isBid Prices.permitted Restriction.triggers Restriction.phaseAfterTape Restriction.phaseAfterDayEnd Restriction.restrictionOn Orders.find Orders.ifSame Orders.restingShares Orders.without Orders.insert Matching.reaches Matching.better Matching.betterOf Matching.bestFrom Matching.best Matching.counterparty Matching.execution Matching.afterTrade Matching.trading Matching.withdrawing Matching.sameOwner Matching.meeting Matching.matchingWith Matching.matchingUpTo Matching.matching order-conditions.idsRise order-conditions.stampsDiffer order-conditions.soundOrder Market.restricted Market.permittedNow Working.limitOf Working.followsBid Working.lifeOf Working.workingPrice Working.orderOf Working.remainder Working.afterRemainder Working.work Pass.displayedClear Pass.moveDown Pass.slideOnce Pass.slideDown Pass.maySlide Pass.moveOf Pass.afterMove Pass.passOne Pass.passOver Venue.opened Venue.entering Venue.effectOfEntry Venue.effectOfCancel Venue.thePass Venue.restrictionReport Venue.effectOfDayEnd Venue.effectOf Sound.sound Refusals.refuseUnless Refusals.firstOf Refusals.refusalOfTerms Refusals.refusalOfCodes Refusals.refusalOfOwner Refusals.refusalOfPlace Refusals.refusalOfEntry Refusals.rests Refusals.refusalOfKind Refusals.refusal Run.stepUnless Run.step Run.run Account.setAt
+unfolding Tests.pick Tests.every Prices.isStep Prices.legal Prices.isBid Prices.permitted Restriction.restrictionOn Orders.without Orders.insert Matching.reaches Matching.better Matching.betterOf Matching.bestFrom Matching.best Matching.counterparty Matching.execution Matching.afterTrade Matching.trading Matching.sameOwner Matching.meeting Matching.matchingWith Matching.matchingUpTo Matching.matching order-conditions.idsRise order-conditions.stampsDiffer order-conditions.soundOrder Market.restricted Market.permittedNow Working.limitOf Working.followsBid Working.lifeOf Working.workingPrice Working.orderOf Working.remainder Working.afterRemainder Working.work Venue.entering Venue.effectOfEntry Venue.effectOf Sound.sound Refusals.refuseUnless Refusals.firstOf Refusals.refusalOfTerms Refusals.refusalOfCodes Refusals.refusalOfOwner Refusals.refusalOfPlace Refusals.refusalOfEntry Refusals.refusalOfKind Refusals.refusal Run.stepUnless Run.step Run.run
 full-book-played =
-    (record { handled = refl; byTerms = refl; withABid = refl; withoutABid = refl; notRestricted = refl; ofFirms = refl }, (record { handled = refl; byTerms = refl; withABid = refl; withoutABid = refl; notRestricted = refl; ofFirms = refl }, tt))
+    (record { handled = refl; byTerms = refl; withABid = refl; exempt = refl; withoutABid = refl; notRestricted = refl; ofFirms = refl }, (record { handled = refl; byTerms = refl; withABid = refl; exempt = refl; withoutABid = refl; notRestricted = refl; ofFirms = refl }, tt))
 
 pub codes-in-order : CodesInOrder
 unfolding Tests.pick Tests.every Prices.isStep Prices.legal Prices.isBid order-conditions.idsRise order-conditions.stampsDiffer Venue.opened Sound.sound Refusals.refuseUnless Refusals.firstOf Refusals.refusalOfTerms Refusals.refusalOfCodes Refusals.refusalOfPlace Refusals.refusalOfEntry Refusals.refusalOfKind Refusals.refusal Run.stepUnless Run.step Run.run

@@ -1,5 +1,5 @@
 -- No. 8: an entry that needs no place no longer meets 7, nothing else changes, and such an entry takes none. Assumes nothing.
-use Prim.Native.Nat.{ℕ, _+_, _≤_, _<_, min}
+use Prim.Native.Nat.{ℕ, _+_, _<_, min}
 use native.Mathlib.Omega.{arith}
 use mathlib.Core.Path.{_≡_, refl, sym, ap, _∙_, subst}
 use mathlib.Core.Bool.{Bool, true, false, not, _&&_, _||_}
@@ -8,11 +8,10 @@ use mathlib.Core.Option.{Option, none, some}
 use lib.Dec.{T, ltb, eqb, eqb→eq}
 use lib.ListN.{length}
 use borrow.Author.Tests.{lt-ltb}
-use Rattle.numbers.specs.Tests.{pick, All}
+use Rattle.numbers.specs.Tests.{pick}
 use Rattle.numbers.specs.Answers.{Outcome, gives, refuses}
 use Rattle.numbers.proofs.TestLaws.{by-test, and-T, all-map}
 use Rattle.book.specs.declared.Order.{Order}
-use Rattle.book.specs.rules.Orders.{find}
 use Rattle.book.specs.rules.Matching.{Meeting, Matched, trading, withdrawing, meeting, matching}
 use Rattle.book.specs.rules.Words.{resting}
 use Rattle.book.proofs.definitions.OrderLaws.{Distinct, without-all, without-length, all-members, find-mem}

@@ -1,10 +1,10 @@
 -- No. 8: 256 entries lead from open to the full book of the examples. Assumes nothing.
 use Prim.Native.Nat.{ℕ, zero, suc, _+_, _≤_, _<_}
 use native.Mathlib.Omega.{arith}
-use mathlib.Core.Path.{_≡_, refl, sym, ap, _∙_, subst}
+use mathlib.Core.Path.{_≡_, refl, ap, _∙_, subst}
 use mathlib.Core.List.{List, [], _∷_, map}
 use mathlib.Core.Option.{none}
-use lib.Dec.{T, ltb}
+use lib.Dec.{T}
 use lib.ListN.{length}
 use borrow.Author.Tests.{lt-ltb, le-ltb}
 use Rattle.numbers.specs.Tests.{pick}
@@ -21,9 +21,8 @@ use Rattle.engine.specs.rules.Working.{limitOf, followsBid, lifeOf, work
 use Rattle.engine.specs.rules.Venue.{Venue, opened, entering, effectOfEntry, effectOf}
 use Rattle.engine.specs.rules.Sound.{mostOrders, mostEvents, sound}
 use Rattle.engine.specs.rules.Refusals.{refuseUnless, firstOf, refusalOfTerms, refusalOfCodes, refusalOfPlace, refusalOfEntry, refusalOfKind, leastBuffer, refusal}
-use Rattle.engine.specs.rules.Run.{Step, stepUnless, step, run}
-use Rattle.engine.specs.claims.Examples.{entryOf, callOf, buyOf, buysFrom, venueOfBuys, fullVenue, buyEntriesFrom, FullBookReached}
-use Rattle.engine.proofs.refinement.RefuseLaws.{refuse-yes}
+use Rattle.engine.specs.rules.Run.{stepUnless, step, run}
+use Rattle.engine.specs.claims.Examples.{callOf, oneShare, buyOf, buysFrom, venueOfBuys, fullVenue, buyEntriesFrom, FullBookReached}
 use Rattle.engine.proofs.demand3.SoundLaws.{venue-sound}
 use Rattle.engine.proofs.demand3.ReachedLaws.{step-sound, opened-sound}
 
@@ -64,16 +63,16 @@ module _ (s : ℕ) where
   after n = venueOfBuys n s 0 0 0
 
   abbrev next : ℕ → Event
-  next n = entryOf (n + 1) 0 100 1 1 0 0
+  next n = oneShare (n + 1) 0 100 0
 
-  taken : (n : ℕ) → n < mostOrders → T (sound (after n)) → refusal (after n) (next n) leastBuffer ≡ none
+  allowed : (n : ℕ) → n < mostOrders → T (sound (after n)) → refusal (after n) (next n) leastBuffer ≡ none
   unfolding refusal refusalOfKind refusalOfEntry refusalOfTerms refusalOfCodes refusalOfPlace refuseUnless firstOf legal
-  taken n l t =
+  allowed n l t =
       rw (T-true (sound (after n)) t, lt-ltb n mostEvents (omega (arith, l)), lt-ltb n (n + 1) (omega arith), buys-count 1 n, lt-ltb n mostOrders l) refl
 
   stepped : (n : ℕ) → n < mostOrders → T (sound (after n)) → step (after n) (next n) leastBuffer .venue ≡ after (n + 1)
   unfolding step stepUnless effectOf effectOfEntry entering orderOf limitOf followsBid lifeOf workingPrice restricted restrictionOn pick
-  stepped n l t = rw (taken n l t, rests-last n) refl
+  stepped n l t = rw (allowed n l t, rests-last n) refl
 
   all-stepped : (n i : ℕ) → i + n ≤ mostOrders → T (sound (after i)) → run (after i) (map callOf (buyEntriesFrom (i + 1) n)) .venue ≡ after (i + n)
   unfolding run

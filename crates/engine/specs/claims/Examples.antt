@@ -64,9 +64,12 @@ dayReports =
 abbrev pub callOf : Event → Call
 callOf e = record { event = e; buffer = leastBuffer }
 
--- the answers to events from a venue opened with the step s and the close 100,000; those at a step of 100, and the last of them
+-- the answers to events from a venue, and from one opened with the step s and the close 100,000; those at a step of 100, and the last of them
+abbrev pub answersFrom : Venue → List Event → List (Outcome (List Report))
+answersFrom v es = map (λ (x : Answered). x .answer) ((run v (map callOf es)) .answered)
+
 abbrev pub answersAt : ℕ → List Event → List (Outcome (List Report))
-answersAt s es = map (λ (x : Answered). x .answer) ((run (opened s 100_000) (map callOf es)) .answered)
+answersAt s es = answersFrom (opened s 100_000) es
 
 abbrev pub answersTo : List Event → List (Outcome (List Report))
 answersTo es = answersAt 100 es
@@ -297,7 +300,7 @@ pub record FirmsPlayed (s : ℕ) : Type 0 where
 abbrev pub FirmsPlayedAtBoth : Type 0
 FirmsPlayedAtBoth = All FirmsPlayed (100 ∷ 50 ∷ [])
 
--- a full book (No. 8): n buys of 1 share at 100, all of one owner, under the ids and stamps from i on
+-- full books (No. 8): a resting buy of 1 share at 100, with its id and stamp; n of them from the id i on
 abbrev pub buyOf : ℕ → ℕ → Order
 buyOf owner i =
     record {
@@ -322,11 +325,11 @@ abbrev pub buysFrom : ℕ → ℕ → ℕ → List Order
 buysFrom owner i zero = []
 buysFrom owner i (suc n) = buyOf owner i ∷ buysFrom owner (i + 1) n
 
--- n of them rest in a market
+-- n of them and no other order rest; b is the bid
 abbrev pub venueOfBuys : ℕ → ℕ → ℕ → ℕ → ℕ → Venue
-venueOfBuys n s phase best owner =
+venueOfBuys n s phase b owner =
     record {
-      market = record { close = 100_000; phase = phase; bid = best; step = s };
+      market = record { close = 100_000; phase = phase; bid = b; step = s };
       orders = buysFrom owner 1 n;
       lastId = n;
       lastStamp = n;
@@ -336,20 +339,17 @@ venueOfBuys n s phase best owner =
 abbrev pub fullVenue : ℕ → ℕ → ℕ → ℕ → Venue
 fullVenue = venueOfBuys 256
 
--- their entries, of kind 1, lead there from open: without a restriction and a bid a full book is reached
+-- a displayed entry of 1 share without a slide
+abbrev pub oneShare : ℕ → ℕ → ℕ → ℕ → Event
+oneShare id mark price life = entryOf id mark price 1 1 life 0
+
+-- the entries of the buys, of kind 1; where the restriction is off and there is no bid, they lead there from open
 abbrev pub buyEntriesFrom : ℕ → ℕ → List Event
 buyEntriesFrom i zero = []
-buyEntriesFrom i (suc n) = entryOf i 0 100 1 1 0 0 ∷ buyEntriesFrom (i + 1) n
+buyEntriesFrom i (suc n) = oneShare i 0 100 0 ∷ buyEntriesFrom (i + 1) n
 
 abbrev pub FullBookReached : Type 0
 FullBookReached = All (λ (s : ℕ). venueAfterAt s (buyEntriesFrom 1 256) ≡ fullVenue s 0 0 0) (100 ∷ 50 ∷ [])
-
-abbrev pub answersFrom : Venue → List Event → List (Outcome (List Report))
-answersFrom v es = map (λ (x : Answered). x .answer) ((run v (map callOf es)) .answered)
-
--- an order of 1 share, displayed, without a slide
-abbrev pub oneShare : ℕ → ℕ → ℕ → ℕ → Event
-oneShare id mark price life = entryOf id mark price 1 1 life 0
 
 pub record FullBookPlayed (s : ℕ) : Type 0 where
   pub handled :
@@ -359,10 +359,11 @@ pub record FullBookPlayed (s : ℕ) : Type 0 where
   pub byTerms :
       answersFrom (fullVenue s 0 0 0) (oneShare 257 1 100 0 ∷ oneShare 256 1 100 0 ∷ oneShare 257 1 100 1 ∷ oneShare 258 0 100 0 ∷ oneShare 259 0 100 0 ∷ [])
       ≡ refuses 7 ∷ refuses 6 ∷ gives (accepted 257 257 100 ∷ tradeOf 1 257 100 1 ∷ []) ∷ gives (accepted 258 258 100 ∷ []) ∷ refuses 7 ∷ []
-  -- restricted, with a bid: an opt-out that would be adjusted and a market short meet 7, an immediate market short and one marked exempt don't
+  -- restricted, with a bid: an opt-out that would be adjusted and a market short meet 7, an immediate market short, a market buy and a market short exempt don't
   pub withABid :
-      answersFrom (fullVenue s 1 50 0) (entryOf 257 2 40 1 1 0 3 ∷ oneShare 257 2 0 0 ∷ oneShare 257 2 0 1 ∷ oneShare 258 3 0 0 ∷ [])
-      ≡ refuses 7 ∷ refuses 7 ∷ gives (accepted 257 257 51 ∷ tradeOf 1 257 100 1 ∷ []) ∷ gives (accepted 258 258 1 ∷ tradeOf 2 258 100 1 ∷ []) ∷ []
+      answersFrom (fullVenue s 1 50 0) (entryOf 257 2 40 1 1 0 3 ∷ oneShare 257 2 0 0 ∷ oneShare 257 0 0 0 ∷ oneShare 258 2 0 1 ∷ [])
+      ≡ refuses 7 ∷ refuses 7 ∷ gives (accepted 257 257 100_000_000 ∷ cancelled 257 1 2 ∷ []) ∷ gives (accepted 258 258 51 ∷ tradeOf 1 258 100 1 ∷ []) ∷ []
+  pub exempt : answersFrom (fullVenue s 1 50 0) (oneShare 257 3 0 0 ∷ []) ≡ gives (accepted 257 257 1 ∷ tradeOf 1 257 100 1 ∷ []) ∷ []
   -- with no bid, or not restricted, a market short is taken as immediate or cancel
   pub withoutABid : answersFrom (fullVenue s 2 0 0) (oneShare 257 2 0 0 ∷ []) ≡ gives (accepted 257 257 1 ∷ tradeOf 1 257 100 1 ∷ []) ∷ []
   pub notRestricted : answersFrom (fullVenue s 0 50 0) (oneShare 257 2 0 0 ∷ []) ≡ gives (accepted 257 257 1 ∷ tradeOf 1 257 100 1 ∷ []) ∷ []
