@@ -5,7 +5,7 @@ use crate::by_owners::withdrawn;
 use crate::fronts::{limit, shares_in_reach, working_price};
 use crate::full_books::{follows_bid, is_full, needs_place};
 use crate::model::{Entry, Event, Refusal, Report, Venue, BUY, CENT, OPT_OUT, SHORT};
-use crate::reached::{self, smaller, Line};
+use crate::reached::{self, grouped, smaller, Line};
 use std::fmt;
 
 /// An entry that a full book took, or refused with 7.
@@ -337,13 +337,8 @@ impl AtStep {
     }
 
     fn lines(&self) -> Vec<Line<&'static str>> {
-        let mut lines: Vec<Line<&'static str>> = Vec::new();
-        for (count, (line, name, _)) in self.kinds.iter().copied().zip(KINDS) {
-            match lines.last_mut() {
-                Some((last, counts)) if *last == line => counts.push((count, name)),
-                _ => lines.push((line, vec![(count, name)])),
-            }
-        }
+        let kinds = self.kinds.into_iter().zip(KINDS);
+        let mut lines = grouped(kinds.map(|(count, (line, name, _))| (line, (count, name))));
         let one_left = self.one_left.into_iter().zip(ONE_LEFT);
         lines.push(("an entry with one place left", one_left.collect()));
         lines

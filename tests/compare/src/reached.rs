@@ -8,6 +8,18 @@ pub type Named = (u64, &'static str);
 /// The counts of one line, and its name.
 pub type Line<N> = (N, Vec<Named>);
 
+/// Counts in lines, each count beside the name of its line; those of one line stand together.
+pub fn grouped<N: PartialEq>(counts: impl Iterator<Item = (N, Named)>) -> Vec<Line<N>> {
+    let mut lines: Vec<Line<N>> = Vec::new();
+    for (line, named) in counts {
+        match lines.last_mut() {
+            Some((last, counts)) if *last == line => counts.push(named),
+            _ => lines.push((line, vec![named])),
+        }
+    }
+    lines
+}
+
 /// The names of all that is 0.
 pub fn never<N: Display>(lines: &[Line<N>]) -> Vec<String> {
     let mut names = Vec::new();

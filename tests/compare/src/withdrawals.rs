@@ -3,7 +3,7 @@
 
 use crate::by_owners::{withdrawn, without_owners};
 use crate::model::{Entry, Event, Order, Report, Venue, BUY, CENT, SHORT};
-use crate::reached::{self, smaller, Line, Named};
+use crate::reached::{self, grouped, smaller, Line, Named};
 use std::fmt;
 
 /// A working order's turn in an event: at an entry, or in the pass.
@@ -411,13 +411,8 @@ impl AtStep {
     }
 
     fn lines(&self) -> Vec<Line<&'static str>> {
-        let mut lines: Vec<Line<&'static str>> = Vec::new();
-        for (count, (line, name, _)) in self.kinds.iter().copied().zip(KINDS) {
-            match lines.last_mut() {
-                Some((last, counts)) if *last == line => counts.push((count, name)),
-                _ => lines.push((line, vec![(count, name)])),
-            }
-        }
+        let kinds = self.kinds.into_iter().zip(KINDS);
+        let mut lines = grouped(kinds.map(|(count, (line, name, _))| (line, (count, name))));
         let names = RECORDS.iter().map(|(name, _)| *name);
         let records: Vec<Named> = self.records.into_iter().zip(names).collect();
         lines.push(("made-up records", records));
