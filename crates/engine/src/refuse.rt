@@ -82,6 +82,7 @@ fn slide_on_right_mark(mark: u32, slide: u32) -> bool
     mark == 2
 }
 
+// The mark, which a question is refused for too.
 fn mark_refusal(mark: u32) -> MayRefuse
     ensures { λ r. ⌜ refusedWith r ≡ refusalOfMark mark none ⌝ }
 {
@@ -91,6 +92,7 @@ fn mark_refusal(mark: u32) -> MayRefuse
     MayRefuse::Allow
 }
 
+// The other codes, which an entry alone has.
 fn other_codes_refusal(e: Entry) -> MayRefuse
     ensures { λ r. ⌜ refusedWith r ≡ refusalOfOtherCodes e ⌝ }
 {
