@@ -14,10 +14,10 @@ use Rattle.engine.specs.declared.Event.{Event}
 use Rattle.engine.specs.declared.Event.the-variants.{Entry as entry, Cancel as cancel, Bid as bid, Tape as tape, DayEnd as dayEnd, OwnedEntry as ownedEntry}
 use Rattle.engine.specs.rules.Venue.{Venue, opened, opening}
 use Rattle.engine.specs.rules.Sound.{sound}
-use Rattle.engine.specs.rules.Refusals.{refuseUnless, firstOf, refusalOfTerms, refusalOfCodes, refusalOfOwner, refusalOfPlace, refusalOfEntry, refusalOfKind, refusal}
+use Rattle.engine.specs.rules.Refusals.{refuseUnless, firstOf, refusalOfOwner, refusalOfEntry, refusalOfKind, refusal}
 use Rattle.engine.specs.rules.Run.{stepUnless, step, Call, run}
 use Rattle.engine.specs.claims.Reached.{ReachedIsSound, StampsBounded}
-use Rattle.engine.proofs.refinement.RefusalLaws.{NotRefused, Unless, refusal-known}
+use Rattle.engine.proofs.refinement.RefusalLaws.{terms-by, codes-by, owner-by, place-by, NotRefused, Unless, refusal-known}
 use Rattle.prices.proofs.PriceLaws.{no-bid}
 use Rattle.engine.proofs.refinement.OpeningLaws.{opening-known}
 use Rattle.engine.proofs.demand3.SoundLaws.{SoundVenue, sound-venue, venue-sound, marketAfter-sound, effectOf-sound}
@@ -72,38 +72,24 @@ refuseUnless-not false n later h k = h tt
 abbrev other : ℕ → Bool
 other n = not (eqb n 16) && (leb 1 n && ltb n 128)
 
-refuseUnless-other : (b : Bool) (n : ℕ) (later : Option ℕ) → T (other n) → Refused later → Refused (refuseUnless b n later)
-refuseUnless-other b n later h =
+of-sound : (n : ℕ) → T (other n) → OfSound n
+of-sound n h =
     let a = and-T (not (eqb n 16)) _ h in
     let l = and-T (leb 1 n) _ (a .1) in
-    refuseUnless-not b n later (λ t. (λ z. subst (λ (x : ℕ). T (not (eqb x 16))) z (a .0), leb→le _ _ (l .0), leb→le _ _ (l .1)))
+    (λ z. subst (λ (x : ℕ). T (not (eqb x 16))) z (a .0), leb→le _ _ (l .0), leb→le _ _ (l .1))
+
+refuseUnless-other : (b : Bool) (n : ℕ) (later : Option ℕ) → T (other n) → Refused later → Refused (refuseUnless b n later)
+refuseUnless-other b n later h = refuseUnless-not b n later (λ t. of-sound n h)
 
 firstOf-not : (r later : Option ℕ) → Refused r → Refused later → Refused (firstOf r later)
 unfolding firstOf
 firstOf-not none later h k = k
 firstOf-not (some n) later h k = h
 
-terms-not : (step price shares : ℕ) → Refused (refusalOfTerms step price shares)
-unfolding refusalOfTerms
-terms-not step price shares = refuseUnless-other _ 3 _ tt (refuseUnless-other _ 4 _ tt (refuseUnless-other _ 4 none tt tt))
-
-codes-not : (e : Entry) → Refused (refusalOfCodes e)
-unfolding refusalOfCodes
-codes-not e =
-    refuseUnless-other _ 18 _ tt (refuseUnless-other _ 5 _ tt (refuseUnless-other _ 5 _ tt (refuseUnless-other _ 19 _ tt (refuseUnless-other _ 20 none tt tt))))
-
-place-not : (v : Venue) (e : Entry) → Refused (refusalOfPlace v e)
-unfolding refusalOfPlace
-place-not v e = refuseUnless-other _ 6 _ tt (refuseUnless-other _ 7 none tt tt)
-
-owner-not : (k : ℕ) → Refused (refusalOfOwner k)
-unfolding refusalOfOwner
-owner-not k = refuseUnless-other _ 21 _ tt (refuseUnless-other _ 21 none tt tt)
-
 refusalOfEntry-not : (v : Venue) (e : Entry) (ofOwner : Option ℕ) → Refused ofOwner → Refused (refusalOfEntry v e ofOwner)
 unfolding refusalOfEntry
 refusalOfEntry-not v e ofOwner h =
-    firstOf-not _ _ (terms-not (v.market.step) (e .price) (e .shares)) (firstOf-not _ _ (codes-not e) (firstOf-not _ _ h (place-not v e)))
+    firstOf-not _ _ (terms-by Refused tt (of-sound 3 tt) (of-sound 4 tt) (v.market.step) (e .price) (e .shares)) (firstOf-not _ _ (codes-by Refused tt (of-sound 18 tt) (of-sound 5 tt) (of-sound 19 tt) (of-sound 20 tt) e) (firstOf-not _ _ h (place-by Refused tt (of-sound 6 tt) (of-sound 7 tt) v e)))
 
 refusalOfKind-not : (v : Venue) (e : Event) → Refused (refusalOfKind v e)
 unfolding refusalOfKind
@@ -112,7 +98,7 @@ refusalOfKind-not v (cancel i) = refuseUnless-other _ 8 none tt tt
 refusalOfKind-not v (bid b) = refuseUnless-other _ 3 none tt tt
 refusalOfKind-not v (tape p) = refuseUnless-other _ 3 none tt tt
 refusalOfKind-not v (dayEnd c) = refuseUnless-other _ 3 none tt tt
-refusalOfKind-not v (ownedEntry e k) = refusalOfEntry-not v e (refusalOfOwner k) (owner-not k)
+refusalOfKind-not v (ownedEntry e k) = refusalOfEntry-not v e (refusalOfOwner k) (owner-by Refused tt (of-sound 21 tt) k)
 
 refusal-not : (v : Venue) (e : Event) (n : ℕ) → T (sound v) → Refused (refusal v e n)
 unfolding refusal

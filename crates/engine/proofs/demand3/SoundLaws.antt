@@ -36,8 +36,7 @@ use Rattle.engine.specs.rules.Venue.{Venue, thePass, entering, effectOfE
 use Rattle.engine.specs.rules.Sound.{mostOrders, mostEvents, venueConditions, sound}
 use Rattle.engine.specs.steps.Steps.{HasPlace}
 use Rattle.book.proofs.definitions.OrderConditionLaws.{FieldsSound, MayWork, MayRest, market-allowed, mayWork-reduced, mayRest-later, order-mayRest, mayRest-order}
-use Rattle.engine.proofs.refinement.RefusalLaws.{EntryAllowed, Allowed}
-use Rattle.engine.proofs.refinement.StepLaws.{place-kept}
+use Rattle.engine.proofs.refinement.RefusalLaws.{EntryAllowed, Allowed, place-kept}
 use Rattle.engine.proofs.demand3.MarketLaws.{restricted-mark, HasPermitted}
 
 -- the book; g is the step, n the last id and s the last stamp
@@ -310,7 +309,7 @@ orderOf-sound v e k f o g =
     let p = f .place in
     record {
       book = book-later (g .book) (e .id) (v .lastStamp + 1) (omega (arith, p .newId)) (omega arith);
-      place = p .place;
+      place = p .hasPlace;
       works =
           record {
             fields = record { mark = c .mark; limit = t .limit; show = c .show; life = life-code m (e .mark) (e .price) (e .life) (c .life); slide = c .slide; entryBid = g .market .bid; market = follows-allowed m (e .mark) (e .price); owner = o };

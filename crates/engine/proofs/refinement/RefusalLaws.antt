@@ -1,5 +1,6 @@
--- What is known of an event that isn't refused. Assumes nothing.
+-- The parts of an entry's refusals, and what is known of an event that isn't refused. Assumes nothing.
 use Prim.Native.Nat.{ℕ, _≤_, _<_}
+use native.Mathlib.Omega.{arith}
 use mathlib.Core.Path.{_≡_, subst}
 use mathlib.Core.Bool.{Bool, true, false, not, _||_}
 use mathlib.Core.Logic.{_⊎_, inl, inr}
@@ -17,8 +18,34 @@ use Rattle.engine.specs.declared.Event.the-variants.{Entry as entry, Can
 use Rattle.engine.specs.rules.Working.{isMarket, limitOf}
 use Rattle.engine.specs.rules.Venue.{Venue}
 use Rattle.engine.specs.rules.Sound.{mostOrders, mostEvents, venueConditions, sound}
-use Rattle.engine.specs.rules.Refusals.{refuseUnless, firstOf, refusalOfTerms, refusalOfCodes, refusalOfOwner, refusalOfPlace, refusalOfEntry, rests, refusalOfKind, leastBuffer, refusal}
+use Rattle.engine.specs.rules.Refusals.{refuseUnless, firstOf, refusalOfTerms, refusalOfOtherCodes, refusalOfCodes, refusalOfOwner, refusalOfPlace, refusalOfEntry, rests, refusalOfKind, leastBuffer, refusal}
 use Rattle.engine.specs.steps.Steps.{HasPlace, EntryHasPlace}
+
+-- what holds of none and of each refusal of a part of an entry's chain holds of the part
+module _ (P : Option ℕ → Type 0) (allowed : P none) where
+  refused-or : (b : Bool) (n : ℕ) (later : Option ℕ) → P (some n) → P later → P (refuseUnless b n later)
+  unfolding refuseUnless
+  refused-or true n later h k = k
+  refused-or false n later h k = h
+
+  pub terms-by : P (some 3) → P (some 4) → (step price shares : ℕ) → P (refusalOfTerms step price shares)
+  unfolding refusalOfTerms
+  terms-by p q step price shares = refused-or _ 3 _ p (refused-or _ 4 _ q (refused-or _ 4 none q allowed))
+
+  pub other-codes-by : P (some 5) → P (some 19) → P (some 20) → (e : Entry) → P (refusalOfOtherCodes e)
+  other-codes-by p q r e = refused-or _ 5 _ p (refused-or _ 5 _ p (refused-or _ 19 _ q (refused-or _ 20 none r allowed)))
+
+  pub codes-by : P (some 18) → P (some 5) → P (some 19) → P (some 20) → (e : Entry) → P (refusalOfCodes e)
+  unfolding refusalOfCodes
+  codes-by m p q r e = refused-or _ 18 _ m (other-codes-by p q r e)
+
+  pub owner-by : P (some 21) → (k : ℕ) → P (refusalOfOwner k)
+  unfolding refusalOfOwner
+  owner-by p k = refused-or _ 21 _ p (refused-or _ 21 none p allowed)
+
+  pub place-by : P (some 6) → P (some 7) → (v : Venue) (e : Entry) → P (refusalOfPlace v e)
+  unfolding refusalOfPlace
+  place-by p q v e = refused-or _ 6 _ p (refused-or _ 7 none q allowed)
 
 -- the step of a sound record is 50 or 100
 pub sound-step : (v : Venue) → T (sound v) → T (isStep (v.market.step))
@@ -39,7 +66,7 @@ OwnerAllowed k = record { least : 1 ≤ k; most : k ≤ mostOwner }
 
 -- what those of its place leave
 abbrev pub PlaceAllowed : Venue → Entry → Type 0
-PlaceAllowed v e = record { newId : v.lastId < e.id; place : EntryHasPlace v e }
+PlaceAllowed v e = record { newId : v.lastId < e.id; hasPlace : EntryHasPlace v e }
 
 -- what an entry of either kind has, and what the refusals of its kind leave of an event
 abbrev pub EntryAllowed : Venue → Entry → Type 0
@@ -115,10 +142,14 @@ place-there life count t day = go (or-T (ltb count mostOrders) (eqb life 1) t)
     go (inl x) = leb→le _ _ x
     go (inr x) = absurd (day (eqb→eq life 1 x))
 
+-- and so it is where no more orders rest
+pub place-kept : {life count fewer : ℕ} → HasPlace life count → fewer ≤ count → HasPlace life fewer
+place-kept h l day = omega (arith, h day, l)
+
 refusalOfPlace-known : (v : Venue) (e : Entry) → Unless (refusalOfPlace v e) (PlaceAllowed v e)
 unfolding refusalOfPlace
 refusalOfPlace-known v e =
-    refuseUnless-known _ _ _ _ (λ i. refuseUnless-known _ _ _ none (λ r. record { newId = leb→le _ _ i; place = place-there _ (length (v .orders)) r }))
+    refuseUnless-known _ _ _ _ (λ i. refuseUnless-known _ _ _ none (λ r. record { newId = leb→le _ _ i; hasPlace = place-there _ (length (v .orders)) r }))
 
 -- an entry's, with what those of its owner leave
 refusalOfEntry-known : (v : Venue) → T (isStep (v.market.step)) → (e : Entry) (P : Type 0) (ofOwner : Option ℕ) → Unless ofOwner P → Unless (refusalOfEntry v e ofOwner) (EntryAllowed v e × P)

@@ -16,7 +16,6 @@ use Rattle.engine.specs.rules.Reports.{Report}
 use Rattle.engine.specs.rules.Records.{reportBytes, reportsBytes}
 use Rattle.engine.specs.rules.Pass.{Effect}
 use Rattle.engine.specs.steps.Memory.{Ordered, SameHeader, Room, Does, DoesEffect}
-use Rattle.engine.specs.steps.Steps.{HasPlace}
 
 -- the bytes of reports
 
@@ -147,7 +146,3 @@ module _ {w₀ w b₀ b : List ℕ} {at n : ℕ} {all : List Report} (xs ys : Li
 
 pub underway-end : {w₀ w b₀ b : List ℕ} {at n : ℕ} {all : List Report} → Underway w₀ w b₀ b at n all [] → Does w₀ w b₀ b at (resting w) all n
 underway-end u = does-as refl (sym (u .reports ∙ append-nil (u .done))) (u .does)
-
--- a place in the book stays where no more orders rest
-pub place-kept : {life count fewer : ℕ} → HasPlace life count → fewer ≤ count → HasPlace life fewer
-place-kept h l day = omega (arith, h day, l)

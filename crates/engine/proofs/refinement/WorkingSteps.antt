@@ -27,7 +27,8 @@ use Rattle.engine.specs.rules.Records.{reportBytes}
 use Rattle.engine.specs.rules.Working.{Worked, remainder, afterRemainder, happened, work}
 use Rattle.engine.specs.steps.Memory.{Ordered, Room, Does}
 use Rattle.engine.specs.steps.Steps.{HasPlace, MayEnter, Meets, matchingReports, Matches, restedOrCancelled}
-use Rattle.engine.proofs.refinement.StepLaws.{put-as, put-one, room-as, room-first, room-one, room-then, ordered-rises, ordered-distinct, holds-ordered, holds-header, does-holds, does-as, does-then, at-member, Underway, underway-start, underway-as, underway-room, underway-then, underway-end, place-kept}
+use Rattle.engine.proofs.refinement.RefusalLaws.{place-kept}
+use Rattle.engine.proofs.refinement.StepLaws.{put-as, put-one, room-as, room-first, room-one, room-then, ordered-rises, ordered-distinct, holds-ordered, holds-header, does-holds, does-as, does-then, at-member, Underway, underway-start, underway-as, underway-room, underway-then, underway-end}
 
 -- an execution, by the side of the working order
 

@@ -15,7 +15,6 @@ use Rattle.book.specs.declared.Order.{Order}
 use Rattle.book.specs.declared.FrontRead.{FrontRead}
 use Rattle.book.specs.rules.Orders.{ifSame}
 use Rattle.book.specs.rules.Matching.{Execution, Happening, traded, Meeting, trading, withdrawing, meeting, Matched, matching}
-use Rattle.book.specs.rules.Sound.{mostShares}
 use Rattle.book.specs.rules.Words.{resting, isBook}
 use Rattle.book.specs.rules.Fill.{allReached, frontRead}
 use Rattle.book.proofs.definitions.ShareLaws.{ifSame-same, ifSame-other}
@@ -26,7 +25,6 @@ use Rattle.book.proofs.definitions.MatchingLaws.{afterTrade-all, afterTrade-dif
 use Rattle.book.proofs.definitions.FillLaws.{front-fills, front-enough, front-shortest, front-whole, reached-alike, matching-left}
 use Rattle.engine.specs.declared.Market.{Market}
 use Rattle.engine.specs.declared.Entry.{Entry}
-use Rattle.engine.specs.declared.Event.{Event}
 use Rattle.engine.specs.declared.Event.the-variants.{Entry as entry}
 use Rattle.engine.specs.declared.Remainder.{Remainder}
 use Rattle.engine.specs.declared.Remainder.the-variants.{Filled, Cancelled, Rests}
@@ -41,15 +39,16 @@ use Rattle.engine.specs.rules.Answers.{countOf, bufferAfter}
 use Rattle.engine.specs.rules.Layout.{venueOf, soundWords, refusedLayout, stepIn}
 use Rattle.engine.specs.rules.Fill.{askedOrder, fillUnless, wouldFill, wouldFillIn}
 use Rattle.engine.specs.claims.RoundTrips.{Word}
-use Rattle.engine.specs.claims.Calls.{Applied}
-use Rattle.engine.specs.claims.Fill.{answerFor, answerIn, ReadShortest, ReadsShortest, ReadsShortestInCalls, refusalGiven, ofVenueTermsOrMark, RefusedByKind, RefusedByKindInCalls, RefusedAsEntries, RefusedAsEntriesInCalls, NoQuestionGets16, NoQuestionOfCallsGets16, executedBy, executedFor, TrueOf, TrueOfTheEffect, TellsTheTruth, TrueOfBytes, TellsTheTruthOfCalls}
+use Rattle.engine.specs.claims.Calls.{refusalGiven, Applied}
+use Rattle.engine.specs.claims.Fill.{answerFor, answerIn, ReadShortest, ReadsShortest, ReadsShortestInCalls, ofVenueTermsOrMark, RefusedByKind, RefusedByKindInCalls, RefusedAsEntries, RefusedAsEntriesInCalls, NoQuestionGets16, NoQuestionOfCallsGets16, executedBy, executedFor, TrueOf, TrueOfTheEffect, TellsTheTruth, TrueOfBytes, TellsTheTruthOfCalls}
 use Rattle.engine.proofs.refinement.RefuseLaws.{refuse-yes, unrefused}
-use Rattle.engine.proofs.refinement.RefusalLaws.{NotRefused, none-known}
+use Rattle.engine.proofs.refinement.RefusalLaws.{terms-by, other-codes-by, place-by, NotRefused, none-known}
 use Rattle.engine.proofs.refinement.OpeningLaws.{opened-book, opened-venue, step-in}
 use Rattle.engine.proofs.refinement.QuestionLaws.{asked-shares, sound-not-16, words-not-16}
 use Rattle.engine.proofs.demand3.SoundLaws.{sound-venue, venue-sound, book-distinct, book-others}
 use Rattle.engine.proofs.demand3.ReachedLaws.{reached-sound}
 use Rattle.engine.proofs.demand3.CallLaws.{accepted-call, Readable, step-readable, bytes-read, reached-words}
+use Rattle.engine.proofs.requests.WordStepLaws.{step-given, count-given}
 
 -- The answer by the book
 
@@ -78,11 +77,6 @@ unfolding refuseUnless
 asked-later true n later k = refl
 asked-later false n later k = k
 
-others-later : (b : Bool) (n : ℕ) (later : Option ℕ) → ofVenueTermsOrMark (some n) ≡ none → ofVenueTermsOrMark later ≡ none → ofVenueTermsOrMark (refuseUnless b n later) ≡ none
-unfolding refuseUnless
-others-later true n later k h = h
-others-later false n later k h = k
-
 asked-first : (r later : Option ℕ) → ofVenueTermsOrMark r ≡ r → ofVenueTermsOrMark (firstOf r later) ≡ firstOf r (ofVenueTermsOrMark later)
 unfolding firstOf
 asked-first none later k = refl
@@ -94,17 +88,16 @@ others-first none later k h = h
 others-first (some n) later k h = k
 
 terms-asked : (s price shares : ℕ) → ofVenueTermsOrMark (refusalOfTerms s price shares) ≡ refusalOfTerms s price shares
-unfolding refusalOfTerms ofVenueTermsOrMark pick
-terms-asked s price shares =
-    asked-later _ 3 _ refl ∙ rw (asked-later (leb 1 shares) 4 _ refl, asked-later (leb shares mostShares) 4 none refl)
+unfolding ofVenueTermsOrMark pick
+terms-asked = terms-by (λ (r : Option ℕ). ofVenueTermsOrMark r ≡ r) refl refl refl
 
 codes-others : (e : Entry) → ofVenueTermsOrMark (refusalOfOtherCodes e) ≡ none
 unfolding ofVenueTermsOrMark pick
-codes-others e = others-later _ 5 _ refl (others-later _ 5 _ refl (others-later _ 19 _ refl (others-later _ 20 none refl refl)))
+codes-others = other-codes-by (λ (r : Option ℕ). ofVenueTermsOrMark r ≡ none) refl refl refl refl
 
 place-others : (v : Venue) (e : Entry) → ofVenueTermsOrMark (refusalOfPlace v e) ≡ none
-unfolding refusalOfPlace ofVenueTermsOrMark pick
-place-others v e = others-later _ 6 _ refl (others-later _ 7 none refl refl)
+unfolding ofVenueTermsOrMark pick
+place-others = place-by (λ (r : Option ℕ). ofVenueTermsOrMark r ≡ none) refl refl refl
 
 codes-and-place : (b : Bool) (codes place : Option ℕ) → ofVenueTermsOrMark codes ≡ none → ofVenueTermsOrMark place ≡ none → ofVenueTermsOrMark (firstOf (refuseUnless b 18 codes) place) ≡ refuseUnless b 18 none
 unfolding refuseUnless firstOf ofVenueTermsOrMark pick
@@ -128,11 +121,6 @@ fill-given : (x : Option ℕ) (v : Venue) (mark price shares : ℕ) → refusalG
 unfolding fillUnless
 fill-given none v mark price shares = refl
 fill-given (some n) v mark price shares = refl
-
-pub step-given : (x : Option ℕ) (v : Venue) (e : Event) → refusalGiven (stepUnless x v e .answer) ≡ x
-unfolding stepUnless
-step-given none v e = refl
-step-given (some n) v e = refl
 
 pub refused-by-kind : RefusedByKind
 unfolding wouldFill
@@ -323,10 +311,6 @@ refused-by-kind-in-words w e = refused-chosen w e (isBook w)
 
 pub refused-by-kind-in-calls : RefusedByKindInCalls
 refused-by-kind-in-calls w e told q = ap refusalGiven q ∙ refused-by-kind-in-words w e
-
-pub count-given : (x : Outcome (List Report)) → refusalGiven (countOf x) ≡ refusalGiven x
-count-given (gives rs) = refl
-count-given (refuses n) = refl
 
 module _ (w : List ℕ) (e : Entry) (n : ℕ) (l : leastBuffer ≤ n) (a : venueOf w .acceptedEvents < mostEvents) where
   chosen : (laid : Bool) → refusalGiven (pick laid (answerFor (venueOf w) e) (refuses 16)) ≡ ofVenueTermsOrMark (refusalGiven (pick laid (step (venueOf w) (entry e) n) (refusedLayout w) .answer))

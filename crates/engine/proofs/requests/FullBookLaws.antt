@@ -28,16 +28,14 @@ use Rattle.engine.specs.rules.Working.{isMarket, followsBid, lifeOf, ord
 use Rattle.engine.specs.rules.Venue.{Venue, entering, effectOfEntry, effectOf}
 use Rattle.engine.specs.rules.Sound.{mostOrders}
 use Rattle.engine.specs.rules.Refusals.{refuseUnless, firstOf, refusalOfTerms, refusalOfCodes, refusalOfOwner, needsNoPlace, refusalOfPlace, refusalOfEntry, rests, refusalOfKind, refusal}
-use Rattle.engine.specs.rules.Run.{Step, stepUnless, step}
-use Rattle.engine.specs.rules.Answers.{countOf}
+use Rattle.engine.specs.rules.Run.{stepUnless, step}
 use Rattle.engine.specs.rules.Layout.{venueOf, stepIn}
-use Rattle.engine.specs.claims.Fill.{refusalGiven}
+use Rattle.engine.specs.claims.Calls.{refusalGiven}
 use Rattle.engine.specs.claims.OtherRefusals.{kindWith, refusalWith, stepWith, stepInWith}
-use Rattle.engine.specs.claims.FullBook.{NoPlaceByTerms, eventNeedsNoPlace, entryBefore, without7, NewlyAccepted, FullBooksTrade, Rested, NoPlaceTaken, NeverTakesAPlace, FullBooksTradeInCalls}
-use Rattle.engine.proofs.refinement.RefusalLaws.{none-known}
+use Rattle.engine.specs.claims.FullBook.{NoPlaceByTerms, eventNeedsNoPlace, beforeNo8, without7, NewlyAccepted, Rested, NoPlaceTaken, RemainingMeet7, OnlyRemainingMeet7, OnlyRemainingMeet7InCalls}
+use Rattle.engine.proofs.refinement.RefusalLaws.{terms-by, codes-by, owner-by, none-known}
 use Rattle.engine.proofs.demand3.SoundLaws.{RemainderOf, remainder-known, SoundVenue, sound-venue, book-distinct}
-use Rattle.engine.proofs.requests.FillLaws.{step-given, count-given}
-use Rattle.engine.proofs.requests.WordStepLaws.{in-words, call-does}
+use Rattle.engine.proofs.requests.WordStepLaws.{step-given, count-given, gives-refuses, count-gives, count-refuses, in-words, call-does}
 
 -- who needs no place
 
@@ -59,45 +57,42 @@ no-place-by-terms m e = life-told (isMarket (e .price)) (restricted m (e .mark) 
 
 -- a chain without 7
 
-module _ (z : Bool) where
-  other-stays : (n : ℕ) → eqb n 7 ≡ false → without7 z (some n) ≡ some n
+module _ (noPlace : Bool) where
+  -- a refusal, or a part of the chain, is the same without 7
+  abbrev Stays : Option ℕ → Type 0
+  Stays r = r ≡ without7 noPlace r
+
+  other-stays : (n : ℕ) → eqb n 7 ≡ false → Stays (some n)
   unfolding pick
-  other-stays n h = go z
+  other-stays n h = go noPlace
     where
-      go : (y : Bool) → pick (y && eqb n 7) none (some n) ≡ some n
+      go : (y : Bool) → some n ≡ pick (y && eqb n 7) none (some n)
       go true = rw h
       go false = refl
 
-  later-without7 : (b : Bool) (n : ℕ) (later before : Option ℕ) → eqb n 7 ≡ false → later ≡ without7 z before → refuseUnless b n later ≡ without7 z (refuseUnless b n before)
+  terms-stay : (s price shares : ℕ) → Stays (refusalOfTerms s price shares)
+  terms-stay = terms-by Stays refl (other-stays 3 refl) (other-stays 4 refl)
+
+  codes-stay : (e : Entry) → Stays (refusalOfCodes e)
+  codes-stay = codes-by Stays refl (other-stays 18 refl) (other-stays 5 refl) (other-stays 19 refl) (other-stays 20 refl)
+
+  owner-stays : (k : ℕ) → Stays (refusalOfOwner k)
+  owner-stays = owner-by Stays refl (other-stays 21 refl)
+
+  later-without7 : (b : Bool) (n : ℕ) (later before : Option ℕ) → eqb n 7 ≡ false → later ≡ without7 noPlace before → refuseUnless b n later ≡ without7 noPlace (refuseUnless b n before)
   unfolding refuseUnless
   later-without7 true n later before k h = h
-  later-without7 false n later before k h = sym (other-stays n k)
+  later-without7 false n later before k h = other-stays n k
 
-  -- a part of the chain is the same without 7
-  abbrev Stays : Option ℕ → Type 0
-  Stays r = r ≡ without7 z r
-
-  first-without7 : (r later before : Option ℕ) → Stays r → later ≡ without7 z before → firstOf r later ≡ without7 z (firstOf r before)
+  first-without7 : (r later before : Option ℕ) → Stays r → later ≡ without7 noPlace before → firstOf r later ≡ without7 noPlace (firstOf r before)
   unfolding firstOf
   first-without7 none later before k h = h
   first-without7 (some n) later before k h = k
 
-  terms-stay : (s price shares : ℕ) → Stays (refusalOfTerms s price shares)
-  unfolding refusalOfTerms
-  terms-stay s price shares = later-without7 _ 3 _ _ refl (later-without7 _ 4 _ _ refl (later-without7 _ 4 none none refl refl))
-
-  codes-stay : (e : Entry) → Stays (refusalOfCodes e)
-  unfolding refusalOfCodes
-  codes-stay e = later-without7 _ 18 _ _ refl (later-without7 _ 5 _ _ refl (later-without7 _ 5 _ _ refl (later-without7 _ 19 _ _ refl (later-without7 _ 20 none none refl refl))))
-
-  owner-stays : (k : ℕ) → Stays (refusalOfOwner k)
-  unfolding refusalOfOwner
-  owner-stays k = later-without7 _ 21 _ _ refl (later-without7 _ 21 none none refl refl)
-
   -- the place itself
-  full-without7 : (few : Bool) → refuseUnless (few || z) 7 none ≡ without7 z (refuseUnless few 7 none)
+  full-without7 : (few : Bool) → refuseUnless (few || noPlace) 7 none ≡ without7 noPlace (refuseUnless few 7 none)
   unfolding refuseUnless pick
-  full-without7 few = go few z
+  full-without7 few = go few noPlace
     where
       go : (f y : Bool) → refuseUnless (f || y) 7 none ≡ without7 y (refuseUnless f 7 none)
       go true y = refl
@@ -106,18 +101,18 @@ module _ (z : Bool) where
 
 -- of the refusals
 
-entry-without7 : (v : Venue) (e : Entry) (ofOwner : Option ℕ) → Stays (needsNoPlace (v .market) e) ofOwner → refusalOfEntry v e ofOwner ≡ without7 (needsNoPlace (v .market) e) (entryBefore v e ofOwner)
+entry-without7 : (v : Venue) (e : Entry) (ofOwner : Option ℕ) → Stays (needsNoPlace (v .market) e) ofOwner → refusalOfEntry v e ofOwner ≡ without7 (needsNoPlace (v .market) e) (beforeNo8 v e ofOwner)
 unfolding refusalOfEntry refusalOfPlace
 entry-without7 v e ofOwner h =
-    let z : Bool = needsNoPlace (v .market) e in
-    first-without7 z _ _ _ (terms-stay z (v.market.step) (e .price) (e .shares)) (first-without7 z _ _ _ (codes-stay z e) (first-without7 z _ _ _ h (later-without7 z _ 6 _ _ refl (full-without7 z _))))
+    let n : Bool = needsNoPlace (v .market) e in
+    first-without7 n _ _ _ (terms-stay n (v.market.step) (e .price) (e .shares)) (first-without7 n _ _ _ (codes-stay n e) (first-without7 n _ _ _ h (later-without7 n _ 6 _ _ refl (full-without7 n _))))
 
 nothing-left-out : (r : Option ℕ) → r ≡ without7 false r
 unfolding pick
 nothing-left-out none = refl
 nothing-left-out (some n) = refl
 
-kind-without7 : (v : Venue) (x : Event) → refusalOfKind v x ≡ without7 (eventNeedsNoPlace (v .market) x) (kindWith entryBefore v x)
+kind-without7 : (v : Venue) (x : Event) → refusalOfKind v x ≡ without7 (eventNeedsNoPlace (v .market) x) (kindWith beforeNo8 v x)
 unfolding refusalOfKind
 kind-without7 v (entry e) = entry-without7 v e none refl
 kind-without7 v (cancel i) = nothing-left-out _
@@ -126,11 +121,11 @@ kind-without7 v (tape p) = nothing-left-out _
 kind-without7 v (dayEnd c) = nothing-left-out _
 kind-without7 v (ownedEntry e k) = entry-without7 v e (refusalOfOwner k) (owner-stays (needsNoPlace (v .market) e) k)
 
-refusal-without7 : (v : Venue) (x : Event) (b : ℕ) → refusal v x b ≡ without7 (eventNeedsNoPlace (v .market) x) (refusalWith entryBefore v x b)
+refusal-without7 : (v : Venue) (x : Event) (b : ℕ) → refusal v x b ≡ without7 (eventNeedsNoPlace (v .market) x) (refusalWith beforeNo8 v x b)
 unfolding refusal
 refusal-without7 v x b =
-    let z : Bool = eventNeedsNoPlace (v .market) x in
-    later-without7 z _ 16 _ _ refl (later-without7 z _ 1 _ _ refl (later-without7 z _ 2 _ _ refl (kind-without7 v x)))
+    let n : Bool = eventNeedsNoPlace (v .market) x in
+    later-without7 n _ 16 _ _ refl (later-without7 n _ 1 _ _ refl (later-without7 n _ 2 _ _ refl (kind-without7 v x)))
 
 -- what is refused now was refused so before; what isn't, and was, needs no place and was refused with 7
 
@@ -150,11 +145,11 @@ none-now z n =
 -- where there is room, nothing changes
 
 module _ (v : Venue) (h : length (v .orders) < mostOrders) where
-  entry-with-room : (e : Entry) (ofOwner : Option ℕ) → entryBefore v e ofOwner ≡ refusalOfEntry v e ofOwner
+  entry-with-room : (e : Entry) (ofOwner : Option ℕ) → beforeNo8 v e ofOwner ≡ refusalOfEntry v e ofOwner
   unfolding refusalOfEntry refusalOfPlace
   entry-with-room e ofOwner = simp (lt-ltb (length (v .orders)) mostOrders h)
 
-  kind-with-room : (x : Event) → kindWith entryBefore v x ≡ refusalOfKind v x
+  kind-with-room : (x : Event) → kindWith beforeNo8 v x ≡ refusalOfKind v x
   unfolding refusalOfKind
   kind-with-room (entry e) = entry-with-room e none
   kind-with-room (cancel i) = refl
@@ -163,7 +158,7 @@ module _ (v : Venue) (h : length (v .orders) < mostOrders) where
   kind-with-room (dayEnd c) = refl
   kind-with-room (ownedEntry e k) = entry-with-room e (refusalOfOwner k)
 
-  refusal-with-room : (x : Event) (b : ℕ) → refusalWith entryBefore v x b ≡ refusal v x b
+  refusal-with-room : (x : Event) (b : ℕ) → refusalWith beforeNo8 v x b ≡ refusal v x b
   unfolding refusal
   refusal-with-room x b = rw (kind-with-room x)
 
@@ -233,15 +228,15 @@ module _ (v : Venue) (x : Event) (b : ℕ) where
   abbrev noPlace : Bool
   noPlace = eventNeedsNoPlace (v .market) x
 
-  abbrev before : Option ℕ
-  before = refusalWith entryBefore v x b
+  abbrev refusalBefore : Option ℕ
+  refusalBefore = refusalWith beforeNo8 v x b
 
   now-given : (y : Outcome (List Report)) → step v x b .answer ≡ y → refusal v x b ≡ refusalGiven y
   unfolding step
   now-given y h = sym (step-given (refusal v x b) v x) ∙ ap refusalGiven h
 
-  before-given : (y : Outcome (List Report)) → stepWith entryBefore v x b .answer ≡ y → before ≡ refusalGiven y
-  before-given y h = sym (step-given before v x) ∙ ap refusalGiven h
+  before-given : (y : Outcome (List Report)) → stepWith beforeNo8 v x b .answer ≡ y → refusalBefore ≡ refusalGiven y
+  before-given y h = sym (step-given refusalBefore v x) ∙ ap refusalGiven h
 
   step-by : (r : Option ℕ) → refusal v x b ≡ r → step v x b ≡ stepUnless r v x
   unfolding step
@@ -255,10 +250,10 @@ module _ (v : Venue) (x : Event) (b : ℕ) where
     takes-none t = rw (step-by none r) (event-takes-none v known-sound x t)
 
     -- it was refused before, so there is no room
-    no-room : {n : ℕ} → before ≡ some n → length (v .orders) < mostOrders → ⊥
+    no-room : {n : ℕ} → refusalBefore ≡ some n → length (v .orders) < mostOrders → ⊥
     no-room h l = let e = sym h ∙ refusal-with-room v l x b ∙ r in let y : _≡_ {A = ℕ} 0 1 = cc in omega arith
 
-    newly-accepted : (n : ℕ) → before ≡ some n → NewlyAccepted v x n (step v x b .venue .orders)
+    newly-accepted : (n : ℕ) → refusalBefore ≡ some n → NewlyAccepted v x n (step v x b .venue .orders)
     newly-accepted n f =
         let q = none-now noPlace n (ap (without7 noPlace) (sym f) ∙ sym (refusal-without7 v x b) ∙ r) in
         let few = known-sound .book .few in
@@ -269,71 +264,44 @@ module _ (v : Venue) (x : Event) (b : ℕ) where
           atMost256 = omega (arith, takes-none (q .0) .noMore, few);
         }
 
-pub full-books-trade : FullBooksTrade
-full-books-trade v x b =
-    let z = noPlace v x b in
+pub only-remaining-meet-7 : OnlyRemainingMeet7
+unfolding step
+only-remaining-meet-7 v x b =
+    let n = noPlace v x b in
     let r = refusal-without7 v x b in
     record {
-      refusal = r;
-      acceptedBefore = λ rs h. let f = before-given v x b (gives rs) h in step-by v x b _ (r ∙ ap (without7 z) f ∙ sym f);
-      refusedNow = λ n h. let f = now-given v x b (refuses n) h in step-by v x b _ (f ∙ sym (given-before z _ n (sym r ∙ f)));
-      newlyAccepted = λ rs n h g. newly-accepted v x b (now-given v x b (gives rs) h) n (before-given v x b (refuses n) g);
+      refusal = step-given (refusal v x b) v x ∙ r ∙ ap (without7 n) (sym (step-given (refusalWith beforeNo8 v x b) v x));
+      acceptedBefore = λ rs h. let f = before-given v x b (gives rs) h in step-by v x b _ (r ∙ ap (without7 n) f ∙ sym f);
+      refusedNow = λ k h. let f = now-given v x b (refuses k) h in step-by v x b _ (f ∙ sym (given-before n _ k (sym r ∙ f)));
+      newlyAccepted = λ rs k h g. newly-accepted v x b (now-given v x b (gives rs) h) k (before-given v x b (refuses k) g);
+      noPlaceTaken = λ rs t h. takes-none v x b (now-given v x b (gives rs) h) t;
     }
-
-pub never-takes-a-place : NeverTakesAPlace
-never-takes-a-place v x b rs t h = takes-none v x b (now-given v x b (gives rs) h) t
 
 -- of a call
 
--- the step of the words and that of before
-record Called (v : Venue) (x : Event) (now was : Step) : Type 0 where
-  refusal : refusalGiven (now .answer) ≡ without7 (eventNeedsNoPlace (v .market) x) (refusalGiven (was .answer))
-  acceptedBefore : (rs : List Report) → was .answer ≡ gives rs → now ≡ was
-  refusedNow : (n : ℕ) → now .answer ≡ refuses n → now ≡ was
-  newlyAccepted : (rs : List Report) (n : ℕ) → now .answer ≡ gives rs → was .answer ≡ refuses n → NewlyAccepted v x n (now .venue .orders)
-  taken : (rs : List Report) → T (eventNeedsNoPlace (v .market) x) → now .answer ≡ gives rs → NoPlaceTaken (v .orders) (now .venue .orders)
-
-called : (w : List ℕ) (x : Event) (n : ℕ) → Called (venueOf w) x (stepIn w x n) (stepInWith entryBefore w x n)
-unfolding step
-called w x n =
+in-call : (w : List ℕ) (x : Event) (n : ℕ) → RemainingMeet7 (venueOf w) x (stepIn w x n) (stepInWith beforeNo8 w x n)
+in-call w x n =
     let v = venueOf w in
-    let z = eventNeedsNoPlace (v .market) x in
-    let f = full-books-trade v x n in
     in-words
-    (Called v x)
+    (RemainingMeet7 v x)
     w
     x
     n
-    (stepWith entryBefore v x n)
+    (stepWith beforeNo8 v x n)
+    (only-remaining-meet-7 v x n)
     (record {
-      refusal = step-given (refusal v x n) v x ∙ f .refusal ∙ ap (without7 z) (sym (step-given (refusalWith entryBefore v x n) v x));
-      acceptedBefore = f .acceptedBefore;
-      refusedNow = f .refusedNow;
-      newlyAccepted = f .newlyAccepted;
-      taken = never-takes-a-place v x n;
-    })
-    (record {
-      refusal = sym (other-stays z 16 refl);
+      refusal = other-stays (eventNeedsNoPlace (v .market) x) 16 refl;
       acceptedBefore = λ rs h. refl;
       refusedNow = λ k h. refl;
-      newlyAccepted = λ rs k h g. let y : _≡_ {A = ℕ} 0 1 = cc in absurd (omega arith);
-      taken = λ rs t h. let y : _≡_ {A = ℕ} 0 1 = cc in absurd (omega arith);
+      newlyAccepted = λ rs k h g. gives-refuses (sym h);
+      noPlaceTaken = λ rs t h. gives-refuses (sym h);
     })
 
--- a count stands for reports, and a refusal for itself
-count-gives : (y : Outcome (List Report)) (n : ℕ) → gives n ≡ countOf y → (rs : List Report) × (y ≡ gives rs)
-count-gives (gives rs) n h = (rs, refl)
-count-gives (refuses k) n h = let y : _≡_ {A = ℕ} 0 1 = cc in absurd (omega arith)
-
-count-refuses : (y : Outcome (List Report)) (n : ℕ) → refuses n ≡ countOf y → y ≡ refuses n
-count-refuses (gives rs) n h = let y : _≡_ {A = ℕ} 0 1 = cc in absurd (omega arith)
-count-refuses (refuses k) n h = let e : k ≡ n = cc in ap refuses e
-
-pub full-books-trade-in-calls : FullBooksTradeInCalls
+pub only-remaining-meet-7-in-calls : OnlyRemainingMeet7InCalls
 unfolding venueOf
-full-books-trade-in-calls w x b answer w′ b′ a =
+only-remaining-meet-7-in-calls w x b answer w′ b′ a =
     let now = stepIn w x (length b) in
-    let r = called w x (length b) in
+    let r = in-call w x (length b) in
     let after : resting w′ ≡ now .venue .orders = ap (λ (v : Venue). v .orders) (a .venue) in
     let reports : (count : ℕ) → answer ≡ gives count → (rs : List Report) × (now .answer ≡ gives rs) = λ count h. count-gives (now .answer) count (sym h ∙ a .answers) in
     record {
@@ -341,5 +309,5 @@ full-books-trade-in-calls w x b answer w′ b′ a =
       acceptedBefore = λ rs h. call-does a (r .acceptedBefore rs h);
       refusedNow = λ n h. call-does a (r .refusedNow n (count-refuses (now .answer) n (sym h ∙ a .answers)));
       newlyAccepted = λ count n h g. let c = reports count h in subst (NewlyAccepted (venueOf w) x n) (sym after) (r .newlyAccepted (c .0) n (c .1) g);
-      noPlaceTaken = λ count t h. let c = reports count h in subst (NoPlaceTaken (resting w)) (sym after) (r .taken (c .0) t (c .1));
+      noPlaceTaken = λ count t h. let c = reports count h in subst (NoPlaceTaken (resting w)) (sym after) (r .noPlaceTaken (c .0) t (c .1));
     }

@@ -16,8 +16,9 @@ use Rattle.engine.specs.rules.Refusals.{refuseUnless, firstOf, refusalOf
 use Rattle.engine.specs.rules.Run.{Step, stepUnless, step}
 use Rattle.engine.specs.rules.Answers.{countOf, bufferAfter}
 use Rattle.engine.specs.rules.Layout.{venueOf, stepIn}
-use Rattle.engine.specs.claims.WhichCode.{codesBefore, entryBefore, readAs5, refusalRead, answerRead, CodesAsBefore, CallsAsBefore}
+use Rattle.engine.specs.claims.WhichCode.{codesBefore, beforeNo3, readAs5, refusalRead, answerRead, CodesAsBefore, CallsAsBefore}
 use Rattle.engine.specs.claims.OtherRefusals.{kindWith, refusalWith, stepWith, stepInWith}
+use Rattle.engine.proofs.refinement.RefusalLaws.{terms-by, owner-by, place-by}
 use Rattle.engine.proofs.requests.WordStepLaws.{in-words}
 
 -- of the refusals
@@ -46,24 +47,28 @@ codes-read : (e : Entry) → refusalRead (refusalOfCodes e) ≡ codesBefore e
 unfolding refusalOfCodes
 codes-read e = codes-chain _ _ _ _ _
 
-terms-read : (s price shares : ℕ) → refusalRead (refusalOfTerms s price shares) ≡ refusalOfTerms s price shares
-unfolding refusalOfTerms pick
-terms-read s price shares = read-later _ 3 _ _ refl (read-later _ 4 _ _ refl (read-later _ 4 none none refl refl))
+-- a part of the chain that has none of them
+abbrev Stays : Option ℕ → Type 0
+Stays r = refusalRead r ≡ r
 
-place-read : (v : Venue) (e : Entry) → refusalRead (refusalOfPlace v e) ≡ refusalOfPlace v e
-unfolding refusalOfPlace pick
-place-read v e = read-later _ 6 _ _ refl (read-later _ 7 none none refl refl)
+terms-read : (s price shares : ℕ) → Stays (refusalOfTerms s price shares)
+unfolding pick
+terms-read = terms-by Stays refl refl refl
 
-owner-read : (k : ℕ) → refusalRead (refusalOfOwner k) ≡ refusalOfOwner k
-unfolding refusalOfOwner pick
-owner-read k = read-later _ 21 _ _ refl (read-later _ 21 none none refl refl)
+place-read : (v : Venue) (e : Entry) → Stays (refusalOfPlace v e)
+unfolding pick
+place-read = place-by Stays refl refl refl
 
-entry-read : (v : Venue) (e : Entry) (ofOwner : Option ℕ) → refusalRead ofOwner ≡ ofOwner → refusalRead (refusalOfEntry v e ofOwner) ≡ entryBefore v e ofOwner
+owner-read : (k : ℕ) → Stays (refusalOfOwner k)
+unfolding pick
+owner-read = owner-by Stays refl refl
+
+entry-read : (v : Venue) (e : Entry) (ofOwner : Option ℕ) → refusalRead ofOwner ≡ ofOwner → refusalRead (refusalOfEntry v e ofOwner) ≡ beforeNo3 v e ofOwner
 unfolding refusalOfEntry
 entry-read v e ofOwner h =
     read-first (refusalOfTerms (v.market.step) (e .price) (e .shares)) _ ∙ rw (terms-read (v.market.step) (e .price) (e .shares), read-first (refusalOfCodes e) (firstOf ofOwner (refusalOfPlace v e)), codes-read e, read-first ofOwner (refusalOfPlace v e), h, place-read v e)
 
-kind-read : (v : Venue) (x : Event) → refusalRead (refusalOfKind v x) ≡ kindWith entryBefore v x
+kind-read : (v : Venue) (x : Event) → refusalRead (refusalOfKind v x) ≡ kindWith beforeNo3 v x
 unfolding refusalOfKind pick
 kind-read v (entry e) = entry-read v e none refl
 kind-read v (cancel i) = read-later _ 8 none none refl refl
@@ -72,7 +77,7 @@ kind-read v (tape p) = read-later _ 3 none none refl refl
 kind-read v (dayEnd c) = read-later _ 3 none none refl refl
 kind-read v (ownedEntry e k) = entry-read v e (refusalOfOwner k) (owner-read k)
 
-refusal-read : (v : Venue) (x : Event) (n : ℕ) → refusalRead (refusal v x n) ≡ refusalWith entryBefore v x n
+refusal-read : (v : Venue) (x : Event) (n : ℕ) → refusalRead (refusal v x n) ≡ refusalWith beforeNo3 v x n
 unfolding refusal pick
 refusal-read v x n = read-later _ 16 _ _ refl (read-later _ 1 _ _ refl (read-later _ 2 _ _ refl (kind-read v x)))
 
@@ -112,11 +117,11 @@ buffer-read b (refuses n) = refl
 abbrev SameStep : Step → Step → Type 0
 SameStep s t = record { answer : answerRead (s .answer) ≡ t .answer; venue : s.venue ≡ t.venue }
 
-called : (w : List ℕ) (x : Event) (n : ℕ) → SameStep (stepIn w x n) (stepInWith entryBefore w x n)
+called : (w : List ℕ) (x : Event) (n : ℕ) → SameStep (stepIn w x n) (stepInWith beforeNo3 w x n)
 unfolding pick
 called w x n =
     let y = codes-as-before (venueOf w) x n in
-    in-words SameStep w x n (stepWith entryBefore (venueOf w) x n) (record { answer = y .answer; venue = y .venue }) (record { answer = refl; venue = refl })
+    in-words SameStep w x n (stepWith beforeNo3 (venueOf w) x n) (record { answer = y .answer; venue = y .venue }) (record { answer = refl; venue = refl })
 
 pub calls-as-before : CallsAsBefore
 calls-as-before w x b answer w′ b′ a =

@@ -36,6 +36,11 @@ pub record SameSpare (w w′ : List ℕ) : Type 0 where
   pub spare : (j : ℕ) → 7 ≤ j → j < headerWords → getD w′ j 0 ≡ getD w j 0
   pub behind : (j : ℕ) → venueWords ≤ j → getD w′ j 0 ≡ getD w j 0
 
+-- the refusal of an answer
+abbrev pub refusalGiven : {A : Type 0} → Outcome A → Option ℕ
+refusalGiven (gives x) = nothing
+refusalGiven (refuses n) = some n
+
 -- one call of apply: the words w and the report buffer b lent to it, the event, the answer, and the words w′ and the buffer b′ after it
 pub record Applied (w : List ℕ) (e : Event) (b : List ℕ) (answer : Outcome ℕ) (w′ b′ : List ℕ) : Type 0 where
   pub answers : answer ≡ countOf (stepIn w e (length b) .answer)
@@ -45,7 +50,7 @@ pub record Applied (w : List ℕ) (e : Event) (b : List ℕ) (answer : Outcome �
   pub same : SameSpare w w′
   pub refused : (n : ℕ) → answer ≡ refuses n → w′ ≡ w
 
--- what a call does is that of the step s: its answer, the report buffer and the venue
+-- a call does what the step s does: its answer, the report buffer and the venue
 pub record CallDoes (s : Step) (b : List ℕ) (answer : Outcome ℕ) (w′ b′ : List ℕ) : Type 0 where
   pub answers : answer ≡ countOf (s .answer)
   pub buffer : b′ ≡ bufferAfter b (s .answer)

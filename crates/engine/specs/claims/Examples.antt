@@ -352,10 +352,12 @@ abbrev pub FullBookReached : Type 0
 FullBookReached = All (λ (s : ℕ). venueAfterAt s (buyEntriesFrom 1 256) ≡ fullVenue s 0 0 0) (100 ∷ 50 ∷ [])
 
 pub record FullBookPlayed (s : ℕ) : Type 0 where
+  -- "It is now handled as any other; only the remaining orders meet 7"
   pub handled :
       answersFrom (fullVenue s 0 0 0) (entryOf 257 0 100 5 1 1 0 ∷ entryOf 258 0 100 5 1 0 0 ∷ oneShare 259 1 0 0 ∷ [])
       ≡ gives (accepted 257 257 100 ∷ cancelled 257 5 2 ∷ []) ∷ refuses 7 ∷ gives (accepted 259 258 1 ∷ tradeOf 1 259 100 1 ∷ []) ∷ []
-  -- by its terms and not by what would become of it: one that would fill in full meets 7, and the same as immediate or cancel makes room for it; 6 comes first
+  -- by its terms and not by what would become of it: one that would fill in full meets 7; the same as immediate or cancel trades, and a buy takes the place that
+  -- is left; 6 comes first
   pub byTerms :
       answersFrom (fullVenue s 0 0 0) (oneShare 257 1 100 0 ∷ oneShare 256 1 100 0 ∷ oneShare 257 1 100 1 ∷ oneShare 258 0 100 0 ∷ oneShare 259 0 100 0 ∷ [])
       ≡ refuses 7 ∷ refuses 6 ∷ gives (accepted 257 257 100 ∷ tradeOf 1 257 100 1 ∷ []) ∷ gives (accepted 258 258 100 ∷ []) ∷ refuses 7 ∷ []

@@ -26,7 +26,7 @@ use Rattle.engine.specs.rules.Records.{reportsUpTo}
 use Rattle.engine.specs.rules.Layout.{venueOf, soundWords, openedWords}
 use Rattle.engine.specs.rules.Fill.{askedOrder, wouldFill, wouldFillIn, outcomeOfFill}
 use Rattle.engine.specs.claims.RoundTrips.{Word}
-use Rattle.engine.specs.claims.Calls.{Applied, AppliedCall, Chain}
+use Rattle.engine.specs.claims.Calls.{refusalGiven, Applied, AppliedCall, Chain}
 
 -- the answer for the mark, price and shares of an entry, of a venue and of words
 abbrev pub answerFor : Venue → Entry → Outcome FrontRead
@@ -69,10 +69,6 @@ abbrev pub FillsFit : Type 0
 FillsFit = (w : List ℕ) (mark price shares : ℕ) → FillFits (wouldFillIn w mark price shares)
 
 -- Its refusals
-
-abbrev pub refusalGiven : {A : Type 0} → Outcome A → Option ℕ
-refusalGiven (gives x) = none
-refusalGiven (refuses n) = some n
 
 -- those of an entry's refusals that are for "venue check, price, shares and mark"; any other is read as none
 unfoldable pub ofVenueTermsOrMark : Option ℕ → Option ℕ

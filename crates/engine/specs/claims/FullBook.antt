@@ -1,4 +1,4 @@
--- Document 02, No. 8, a full book still trades, as claims: against the place of before, an entry that needs no place no longer meets 7, and nothing else changes; such
+-- Document 02, No. 8, a full book still trades, as claims: against the place test of before, an entry that needs no place no longer meets 7, and nothing else changes; such
 -- an entry takes none. Assumes nothing.
 use Prim.Native.Nat.{ℕ, _≤_}
 use mathlib.Core.Path.{_≡_}
@@ -21,16 +21,15 @@ use Rattle.engine.specs.rules.Reports.{Report}
 use Rattle.engine.specs.rules.Working.{isMarket}
 use Rattle.engine.specs.rules.Venue.{Venue}
 use Rattle.engine.specs.rules.Sound.{mostOrders}
-use Rattle.engine.specs.rules.Refusals.{refuseUnless, firstOf, refusalOfTerms, refusalOfCodes, needsNoPlace, rests, refusal}
-use Rattle.engine.specs.rules.Run.{step}
+use Rattle.engine.specs.rules.Refusals.{refuseUnless, firstOf, refusalOfTerms, refusalOfCodes, needsNoPlace, rests}
+use Rattle.engine.specs.rules.Run.{Step, step}
 use Rattle.engine.specs.rules.Layout.{venueOf}
-use Rattle.engine.specs.claims.Calls.{Applied, CallDoes}
-use Rattle.engine.specs.claims.Fill.{refusalGiven}
-use Rattle.engine.specs.claims.OtherRefusals.{EntryRefusals, refusalWith, stepWith, stepInWith}
+use Rattle.engine.specs.claims.Calls.{refusalGiven, Applied, CallDoes}
+use Rattle.engine.specs.claims.OtherRefusals.{EntryRefusals, stepWith, stepInWith}
 
 -- Who needs no place
 
--- by an entry's own terms: its life is 1, or its price is 0 and it isn't a restricted short with a bid present
+-- by its fields and the market: its life is 1, or its price is 0 and it isn't a restricted short with a bid present
 abbrev pub NoPlaceByTerms : Type 0
 NoPlaceByTerms =
     (m : Market) (e : Entry) →
@@ -55,8 +54,8 @@ placeBefore v e =
     none)
 
 -- the refusals of an entry with that place, behind the terms, codes and owner of now
-abbrev pub entryBefore : EntryRefusals
-entryBefore v e ofOwner =
+abbrev pub beforeNo8 : EntryRefusals
+beforeNo8 v e ofOwner =
     firstOf (refusalOfTerms (v.market.step) (e .price) (e .shares)) (firstOf (refusalOfCodes e) (firstOf ofOwner (placeBefore v e)))
 
 -- a refusal of before, and none for a 7 where no place is needed
@@ -71,52 +70,48 @@ pub record NewlyAccepted (v : Venue) (x : Event) (n : ℕ) (after : List Order) 
   pub noPlace : T (eventNeedsNoPlace (v .market) x)
   pub atMost256 : length after ≤ mostOrders
 
-pub record FullBookTrades (v : Venue) (x : Event) (b : ℕ) : Type 0 where
-  -- "only the remaining orders meet 7"; of every other refusal, and of every other event, nothing changes
-  pub refusal : refusal v x b ≡ without7 (eventNeedsNoPlace (v .market) x) (refusalWith entryBefore v x b)
-  -- "Every entry that was accepted before gets the same reports and leaves the same venue"
-  pub acceptedBefore : (rs : List Report) → stepWith entryBefore v x b .answer ≡ gives rs → step v x b ≡ stepWith entryBefore v x b
-  -- what is refused now was refused so before
-  pub refusedNow : (n : ℕ) → step v x b .answer ≡ refuses n → step v x b ≡ stepWith entryBefore v x b
-  pub newlyAccepted :
-      (rs : List Report) (n : ℕ) → step v x b .answer ≡ gives rs → stepWith entryBefore v x b .answer ≡ refuses n →
-      NewlyAccepted v x n (step v x b .venue .orders)
-
--- of every venue, event and buffer length
-abbrev pub FullBooksTrade : Type 0
-FullBooksTrade = (v : Venue) (x : Event) (b : ℕ) → FullBookTrades v x b
-
 -- No place is taken
 
 -- an order rested before under its id
 abbrev pub Rested : List Order → Order → Type 0
 Rested before o = T (rests (find (o .id) before))
 
--- after an accepted entry that needs no place no more orders rest than before, and each of them rested before
+-- no more orders rest than before, and each of them rested before
 pub record NoPlaceTaken (before after : List Order) : Type 0 where
   pub noMore : length after ≤ length before
   pub rested : All (Rested before) after
 
-abbrev pub NeverTakesAPlace : Type 0
-NeverTakesAPlace =
-    (v : Venue) (x : Event) (b : ℕ) (rs : List Report) → T (eventNeedsNoPlace (v .market) x) → step v x b .answer ≡ gives rs →
-    NoPlaceTaken (v .orders) (step v x b .venue .orders)
+-- The claim
 
--- The same of every call of apply, on any words and any buffer
+-- an event x to the venue v, as it is answered now and as it was
+pub record RemainingMeet7 (v : Venue) (x : Event) (now was : Step) : Type 0 where
+  -- "only the remaining orders meet 7"; of every other refusal, and of every other event, nothing changes
+  pub refusal : refusalGiven (now .answer) ≡ without7 (eventNeedsNoPlace (v .market) x) (refusalGiven (was .answer))
+  -- "Every entry that was accepted before gets the same reports and leaves the same venue"
+  pub acceptedBefore : (rs : List Report) → was .answer ≡ gives rs → now ≡ was
+  -- what is refused now was refused so before
+  pub refusedNow : (n : ℕ) → now .answer ≡ refuses n → now ≡ was
+  pub newlyAccepted : (rs : List Report) (n : ℕ) → now .answer ≡ gives rs → was .answer ≡ refuses n → NewlyAccepted v x n (now .venue .orders)
+  pub noPlaceTaken : (rs : List Report) → T (eventNeedsNoPlace (v .market) x) → now .answer ≡ gives rs → NoPlaceTaken (v .orders) (now .venue .orders)
 
-pub record FullBookTradesInCall (w : List ℕ) (x : Event) (b : List ℕ) (answer : Outcome ℕ) (w′ b′ : List ℕ) : Type 0 where
-  pub refusal : refusalGiven answer ≡ without7 (eventNeedsNoPlace (venueOf w .market) x) (refusalGiven (stepInWith entryBefore w x (length b) .answer))
+-- of every venue, event and buffer length
+abbrev pub OnlyRemainingMeet7 : Type 0
+OnlyRemainingMeet7 = (v : Venue) (x : Event) (b : ℕ) → RemainingMeet7 v x (step v x b) (stepWith beforeNo8 v x b)
+
+-- the same of every call of apply, on any words and any buffer
+pub record RemainingMeet7InCall (w : List ℕ) (x : Event) (b : List ℕ) (answer : Outcome ℕ) (w′ b′ : List ℕ) : Type 0 where
+  pub refusal : refusalGiven answer ≡ without7 (eventNeedsNoPlace (venueOf w .market) x) (refusalGiven (stepInWith beforeNo8 w x (length b) .answer))
   pub acceptedBefore :
-      (rs : List Report) → stepInWith entryBefore w x (length b) .answer ≡ gives rs →
-      CallDoes (stepInWith entryBefore w x (length b)) b answer w′ b′
-  pub refusedNow : (n : ℕ) → answer ≡ refuses n → CallDoes (stepInWith entryBefore w x (length b)) b answer w′ b′
+      (rs : List Report) → stepInWith beforeNo8 w x (length b) .answer ≡ gives rs →
+      CallDoes (stepInWith beforeNo8 w x (length b)) b answer w′ b′
+  pub refusedNow : (n : ℕ) → answer ≡ refuses n → CallDoes (stepInWith beforeNo8 w x (length b)) b answer w′ b′
   pub newlyAccepted :
-      (count n : ℕ) → answer ≡ gives count → stepInWith entryBefore w x (length b) .answer ≡ refuses n →
+      (count n : ℕ) → answer ≡ gives count → stepInWith beforeNo8 w x (length b) .answer ≡ refuses n →
       NewlyAccepted (venueOf w) x n (resting w′)
   pub noPlaceTaken :
       (count : ℕ) → T (eventNeedsNoPlace (venueOf w .market) x) → answer ≡ gives count → NoPlaceTaken (resting w) (resting w′)
 
-abbrev pub FullBooksTradeInCalls : Type 0
-FullBooksTradeInCalls =
+abbrev pub OnlyRemainingMeet7InCalls : Type 0
+OnlyRemainingMeet7InCalls =
     (w : List ℕ) (x : Event) (b : List ℕ) (answer : Outcome ℕ) (w′ b′ : List ℕ) → Applied w x b answer w′ b′ →
-    FullBookTradesInCall w x b answer w′ b′
+    RemainingMeet7InCall w x b answer w′ b′

@@ -1,4 +1,4 @@
--- An event whose entries are refused by another chain: what No. 3 and No. 8 leave as it was is stated against it. Assumes nothing.
+-- Events with another chain of an entry's refusals: what No. 3 and No. 8 leave as it was is stated against it. Assumes nothing.
 use Prim.Native.Nat.{ℕ}
 use mathlib.Core.List.{List}
 use mathlib.Core.Option.{Option, none}
@@ -18,7 +18,7 @@ use Rattle.engine.specs.rules.Layout.{venueOf, refusedLayout}
 abbrev pub EntryRefusals : Type 0
 EntryRefusals = Venue → Entry → Option ℕ → Option ℕ
 
--- of each kind of event, of an event, and what it does, with those; every other kind is refused as now
+-- of each kind of event, of an event, and what it does, with those; every kind but the two of entries is refused as now
 abbrev pub kindWith : EntryRefusals → Venue → Event → Option ℕ
 kindWith ofEntry v (entry e) = ofEntry v e none
 kindWith ofEntry v (cancel i) = refusalOfKind v (cancel i)

@@ -15,9 +15,7 @@ use Rattle.engine.specs.declared.Event.{Event}
 use Rattle.engine.specs.rules.Venue.{Venue}
 use Rattle.engine.specs.rules.Refusals.{refuseUnless, firstOf, refusalOfTerms, refusalOfPlace, refusal}
 use Rattle.engine.specs.rules.Run.{step}
-use Rattle.engine.specs.rules.Answers.{countOf, bufferAfter}
-use Rattle.engine.specs.rules.Layout.{venueOf}
-use Rattle.engine.specs.claims.Calls.{Applied}
+use Rattle.engine.specs.claims.Calls.{Applied, CallDoes}
 use Rattle.engine.specs.claims.OtherRefusals.{EntryRefusals, refusalWith, stepWith, stepInWith}
 
 -- Before No. 3: "5 mark, show, life or slide"
@@ -25,8 +23,8 @@ abbrev pub codesBefore : Entry → Option ℕ
 codesBefore e = refuseUnless (conj (leb (e .mark) 3 ∷ leb (e .show) 1 ∷ leb (e .life) 1 ∷ slideAllowed (e .mark) (e .slide) ∷ [])) 5 none
 
 -- the refusals of an entry with those in the place of the codes; beside them terms, owner and place are those of now
-abbrev pub entryBefore : EntryRefusals
-entryBefore v e ofOwner =
+abbrev pub beforeNo3 : EntryRefusals
+beforeNo3 v e ofOwner =
     firstOf (refusalOfTerms (v.market.step) (e .price) (e .shares)) (firstOf (codesBefore e) (firstOf ofOwner (refusalOfPlace v e)))
 
 -- 18, 19 and 20 read as 5
@@ -41,20 +39,18 @@ abbrev pub answerRead : {A : Type 0} → Outcome A → Outcome A
 answerRead (gives x) = gives x
 answerRead (refuses n) = refuses (readAs5 n)
 
--- read so, every event is refused as before: nothing is accepted or refused that wasn't; the reports and the venue are those of before
+-- read so, every event is refused as with the one test of before: by it nothing is accepted or refused that wasn't; the reports and the venue are those of before
 pub record ReadAsBefore (v : Venue) (x : Event) (n : ℕ) : Type 0 where
-  pub refusal : refusalRead (refusal v x n) ≡ refusalWith entryBefore v x n
-  pub answer : answerRead (step v x n .answer) ≡ stepWith entryBefore v x n .answer
-  pub venue : step v x n .venue ≡ stepWith entryBefore v x n .venue
+  pub refusal : refusalRead (refusal v x n) ≡ refusalWith beforeNo3 v x n
+  pub answer : answerRead (step v x n .answer) ≡ stepWith beforeNo3 v x n .answer
+  pub venue : step v x n .venue ≡ stepWith beforeNo3 v x n .venue
 
 abbrev pub CodesAsBefore : Type 0
 CodesAsBefore = (v : Venue) (x : Event) (n : ℕ) → ReadAsBefore v x n
 
 -- the same of every call of apply, on any words and any buffer
-pub record CallAsBefore (w : List ℕ) (x : Event) (b : List ℕ) (answer : Outcome ℕ) (w′ b′ : List ℕ) : Type 0 where
-  pub answers : answerRead answer ≡ countOf (stepInWith entryBefore w x (length b) .answer)
-  pub buffer : b′ ≡ bufferAfter b (stepInWith entryBefore w x (length b) .answer)
-  pub venue : venueOf w′ ≡ stepInWith entryBefore w x (length b) .venue
+abbrev pub CallAsBefore : List ℕ → Event → List ℕ → Outcome ℕ → List ℕ → List ℕ → Type 0
+CallAsBefore w x b answer w′ b′ = CallDoes (stepInWith beforeNo3 w x (length b)) b (answerRead answer) w′ b′
 
 abbrev pub CallsAsBefore : Type 0
 CallsAsBefore =

@@ -42,9 +42,10 @@ freshWords s close = set (set (set (replicate venueWords 0) 1 close) 7 s) layout
 unfoldable pub openedWords : ℕ → ℕ → List ℕ
 openedWords s close = pick (isStep s && legal s close) (freshWords s close) (replicate venueWords 0)
 
--- one event of the venue that the words mean; words that are laid out as none are refused with 16
+-- words that are laid out as no venue are refused with 16
 abbrev pub refusedLayout : List ℕ → Step
 refusedLayout w = record { answer = refuses 16; venue = venueOf w }
 
+-- one event of the venue that the words mean
 unfoldable pub stepIn : List ℕ → Event → ℕ → Step
 stepIn w e n = pick (isBook w) (step (venueOf w) e n) (refusedLayout w)

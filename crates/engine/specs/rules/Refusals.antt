@@ -65,7 +65,7 @@ refusalOfOwner k =
 abbrev pub needsNoPlace : Market → Entry → Bool
 needsNoPlace m e = eqb (lifeOf m (e .mark) (e .price) (e .life)) 1
 
--- it has a place, or needs none
+-- unless it needs none, fewer than 256 orders rest
 abbrev pub hasPlace : Venue → Entry → Bool
 hasPlace v e = ltb (length (v .orders)) mostOrders || needsNoPlace (v .market) e
 

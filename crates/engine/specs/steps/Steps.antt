@@ -31,11 +31,11 @@ abbrev pub entryBy : Entry → ℕ → Event
 entryBy e zero = entry e
 entryBy e (suc k) = ownedEntry e (suc k)
 
--- an order of this life has a place where so many rest, or needs none: fewer than 256 rest, or it is immediate or cancel (No. 8)
+-- unless an order of this life is immediate or cancel, it has a place where so many rest (No. 8)
 abbrev pub HasPlace : ℕ → ℕ → Type 0
 HasPlace life count = (life ≡ 1 → ⊥) → count < mostOrders
 
--- the order of an entry does
+-- so has the order of the entry e in the venue v
 abbrev pub EntryHasPlace : Venue → Entry → Type 0
 EntryHasPlace v e = HasPlace (lifeOf (v .market) (e .mark) (e .price) (e .life)) (length (v .orders))
 

@@ -12,8 +12,8 @@ use Rattle.book.specs.declared.FrontRead.{FrontRead}
 use Rattle.engine.specs.declared.Entry.{Entry}
 use Rattle.engine.specs.declared.Event.the-variants.{Entry as entry}
 use Rattle.engine.specs.rules.Fill.{wouldFillIn}
-use Rattle.engine.specs.claims.Calls.{Applied}
-use Rattle.engine.specs.claims.Fill.{FillFits, refusalGiven}
+use Rattle.engine.specs.claims.Calls.{refusalGiven, Applied}
+use Rattle.engine.specs.claims.Fill.{FillFits}
 use Rattle.engine.proofs.bytes.RecordLaws.{record-unique}
 use Rattle.engine.proofs.refinement.QuestionLaws.{fills-fit, words-not-16}
 use Rattle.engine.proofs.requests.FillLaws.{in-words-shortest, refused-by-kind-in-words, true-of-call, refused-in-call}

@@ -15,7 +15,8 @@ use Rattle.engine.specs.rules.Refusals.{refuseUnless, refusalOfKind, leastBuffe
 use Rattle.engine.specs.rules.Records.{recordAt}
 use Rattle.engine.specs.rules.Layout.{venueOf, soundWords}
 use Rattle.engine.specs.rules.Fill.{askedOrder, wouldFillIn}
-use Rattle.engine.specs.claims.Fill.{ReadShortest, refusalGiven, ofVenueTermsOrMark, TrueOfBytes}
+use Rattle.engine.specs.claims.Calls.{refusalGiven}
+use Rattle.engine.specs.claims.Fill.{ReadShortest, ofVenueTermsOrMark, TrueOfBytes}
 use Rattle.host.specs.rules.Host.{hostAnswer, outcomeOf}
 use Rattle.host.specs.rules.Fill.{fillNumber, fillRead}
 use Rattle.host.specs.claims.Calls.{HostOpened, HostApplied}

@@ -28,7 +28,7 @@ enter-requires c κs =
     let e = entry (s .args .e) in
     let h = sym (r .entry-refusal .ensures) ∙ ap refusedWith (c .before .before .enum-told .given .1) in
     let k = kind-allowed e (s .pre) h in
-    ((kind-may-accept e (s .pre) h, k .place .place, k .place .newId), kind-has-room e (s .pre) h (omega (arith, s .good .1 .1)))
+    ((kind-may-accept e (s .pre) h, k .place .hasPlace, k .place .newId), kind-has-room e (s .pre) h (omega (arith, s .good .1 .1)))
 
 same-length : tie.Need-same-length
 same-length c = search needs

@@ -51,7 +51,7 @@ enter-requires c κs =
     let h = judged r _ (c .before .before .enum-told .given .1) in
     let k = kind-allowed e (s .pre) h in
     let room = kind-has-room e (s .pre) h (omega (arith, s .good .1 .1)) in
-    ((kind-may-accept e (s .pre) h, k .0 .place .place, k .0 .place .newId), subst (λ (x : Event). Room (s .args .reports .now) 0 (effectIn (s .args .w .now) x .reports)) (sym (by-owned (s .args .e) (s .args .owner) (k .1 .least))) room)
+    ((kind-may-accept e (s .pre) h, k .0 .place .hasPlace, k .0 .place .newId), subst (λ (x : Event). Room (s .args .reports .now) 0 (effectIn (s .args .w .now) x .reports)) (sym (by-owned (s .args .e) (s .args .owner) (k .1 .least))) room)
 
 same-length : tie.Need-same-length
 same-length c = search needs
