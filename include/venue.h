@@ -72,8 +72,8 @@ uint32_t venue_open(uint32_t *words, size_t words_length, uint32_t step, uint32_
    20  a slide other than 0 with a mark other than short, 2
    21  the owner of an entry of kind 6 isn't 1 to 65,535
     6  the id isn't above that of the last accepted entry
-    7  256 orders rest, and the entry needs a place: its life is 0, and it isn't a market order, or is one of a short while the restriction is on and a bid is present.
-       An order that is immediate or cancel, and any other market order, is handled as ever
+    7  256 orders rest, and the entry needs a place: its life is 0, and it is no market order, unless one of a short while the restriction is on and a bid
+       is present. Every other entry is taken into a full book too: it trades, and what is left of it is cancelled
     8  no order rests under the id to cancel */
 uint32_t venue_apply(uint32_t *words, size_t words_length, const uint8_t *record, size_t record_length, uint8_t *reports,
                      size_t reports_length);
