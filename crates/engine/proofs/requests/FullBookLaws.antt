@@ -107,6 +107,7 @@ entry-without7 v e ofOwner h =
     let n : Bool = needsNoPlace (v .market) e in
     first-without7 n _ _ _ (terms-stay n (v.market.step) (e .price) (e .shares)) (first-without7 n _ _ _ (codes-stay n e) (first-without7 n _ _ _ h (later-without7 n _ 6 _ _ refl (full-without7 n _))))
 
+-- of any other event nothing is left out
 nothing-left-out : (r : Option ℕ) → r ≡ without7 false r
 unfolding pick
 nothing-left-out none = refl
@@ -129,17 +130,17 @@ refusal-without7 v x b =
 
 -- what is refused now was refused so before; what isn't, and was, needs no place and was refused with 7
 
-given-before : (z : Bool) (r : Option ℕ) (n : ℕ) → without7 z r ≡ some n → r ≡ some n
-given-before z none n = λ h. h
-given-before z (some k) n =
+given-before : (noPlace : Bool) (r : Option ℕ) (n : ℕ) → without7 noPlace r ≡ some n → r ≡ some n
+given-before noPlace none n = λ h. h
+given-before noPlace (some k) n =
     by-test (λ (r : Option ℕ). r ≡ some n → some k ≡ some n) _ (λ t h. let y : _≡_ {A = ℕ} 0 1 = cc in absurd (omega arith)) (λ t h. h)
 
-none-now : (z : Bool) (n : ℕ) → without7 z (some n) ≡ none → T z × (n ≡ 7)
-none-now z n =
+none-now : (noPlace : Bool) (n : ℕ) → without7 noPlace (some n) ≡ none → T noPlace × (n ≡ 7)
+none-now noPlace n =
     by-test
-    (λ (r : Option ℕ). r ≡ none → T z × (n ≡ 7))
+    (λ (r : Option ℕ). r ≡ none → T noPlace × (n ≡ 7))
     _
-    (λ t h. let a = and-T z (eqb n 7) t in (a .0, eqb→eq n 7 (a .1)))
+    (λ t h. let a = and-T noPlace (eqb n 7) t in (a .0, eqb→eq n 7 (a .1)))
     (λ t h. let y : _≡_ {A = ℕ} 0 1 = cc in absurd (omega arith))
 
 -- where there is room, nothing changes
