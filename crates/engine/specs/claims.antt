@@ -3,6 +3,7 @@ pub mod Account
 pub mod Demand3
 pub mod Reached
 pub mod RoundTrips
+pub mod Reading
 pub mod Owners
 pub mod Examples
 pub mod Calls

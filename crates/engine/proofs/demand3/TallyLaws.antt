@@ -15,11 +15,11 @@ use Rattle.engine.proofs.demand3.Invariant.{TalliesKnow, TalliesAgree}
 
 -- a column with one entry set
 
-pub setAt-same : (k x : ℕ) (f : ℕ → ℕ) → setAt k x f k ≡ x
+pub setAt-same : {A : Type 0} (k : ℕ) (x : A) (f : ℕ → A) → setAt k x f k ≡ x
 unfolding setAt
 setAt-same k x f = pick-yes (eqb k k) _ _ (eqb-refl k)
 
-pub setAt-other : (k x : ℕ) (f : ℕ → ℕ) (j : ℕ) → (j ≡ k → ⊥) → setAt k x f j ≡ f j
+pub setAt-other : {A : Type 0} (k : ℕ) (x : A) (f : ℕ → A) (j : ℕ) → (j ≡ k → ⊥) → setAt k x f j ≡ f j
 unfolding setAt
 setAt-other k x f j h = pick-no (eqb j k) _ _ (ne→T j k h)
 

@@ -205,8 +205,8 @@ effectOf-stays : (v : Venue) (e : Event) (o : Order) → T (runsPass e) → (mar
 unfolding effectOf
 effectOf-stays v (entry e) o q z a g said h = absurd q
 effectOf-stays v (cancel i) o q z a g said h = absurd q
-effectOf-stays v (bid b) o q z a g said h = thePass-turns _ v (List·Memᴰ o) (g .market .step, a) (g .book) (turn-stays _ z (v .lastId) o said) h
-effectOf-stays v (tape p) o q z a g said h = thePass-turns _ v (List·Memᴰ o) (market-permits (g .market)) (g .book) (turn-stays _ z (v .lastId) o said) h
+effectOf-stays v (bid b) o q z a g said h = thePass-turns _ v (g .market .step, a) (g .book) (List·Memᴰ o) (turn-stays _ z (v .lastId) o said) h
+effectOf-stays v (tape p) o q z a g said h = thePass-turns _ v (market-permits (g .market)) (g .book) (List·Memᴰ o) (turn-stays _ z (v .lastId) o said) h
 effectOf-stays v (dayEnd c) o q z a g said h = absurd q
 effectOf-stays v (ownedEntry e k) o q z a g said h = absurd q
 

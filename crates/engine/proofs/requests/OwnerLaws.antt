@@ -3,14 +3,14 @@
 use Prim.Native.Nat.{ℕ, _+_, _<_, min}
 use native.Mathlib.Omega.{arith}
 use mathlib.Core.Path.{_≡_, refl, ap, sym, _∙_, subst}
-use mathlib.Core.Bool.{not}
+use mathlib.Core.Bool.{Bool, not}
 use mathlib.Core.Option.{Option, none, some}
-use mathlib.Core.List.{List, [], _∷_, _++_, map, foldl, foldl-append, foldl-map, append-nil, List·Memᴰ}
+use mathlib.Core.List.{List, [], _∷_, _++_, map, append-nil, List·Memᴰ}
 use lib.Dec.{T, ltb, eqb, leb→le, le→leb, eqb→eq, T-not}
 use lib.ListN.{length}
 use Rattle.numbers.specs.Tests.{pick, All}
 use Rattle.numbers.specs.Answers.{Outcome, gives, refuses}
-use Rattle.numbers.proofs.TestLaws.{by-test, and-T, T-and, eq→T, ne→T, pick-no, all-both}
+use Rattle.numbers.proofs.TestLaws.{and-T, T-and, eq→T, ne→T, pick-no, all-both}
 use Rattle.prices.specs.Prices.{isStep, legal}
 use Rattle.book.specs.declared.Order.{Order}
 use Rattle.book.specs.rules.Orders.{find, without}
@@ -18,10 +18,10 @@ use Rattle.book.specs.rules.Matching.{Execution, Happening, traded, withdrawn, 
 use Rattle.book.specs.rules.Sound.{idsRise, stampsDiffer}
 use Rattle.book.specs.rules.Words.{isBook}
 use Rattle.book.specs.claims.OwnOrders.{executionsOf}
-use Rattle.book.proofs.definitions.OrderLaws.{idOf, stampOf, Other, Distinct, taken-all, mem-taken, without-all, without-other, without-differ, Found, find-found}
+use Rattle.book.proofs.definitions.OrderLaws.{idOf, stampOf, Other, Distinct, taken-all, all-taken, mem-taken, insert-taken, without-all, without-other, without-differ, Found, find-found}
 use Rattle.book.proofs.definitions.CounterpartyLaws.{Reached}
 use Rattle.book.proofs.definitions.MeetingLaws.{execution-by, trading-known, withdrawing-known, meeting-by-owner}
-use Rattle.book.proofs.definitions.MatchingLaws.{afterTrade-all, afterTrade-differ, matching-keeps}
+use Rattle.book.proofs.definitions.MatchingLaws.{afterTrade-all, afterTrade-differ}
 use Rattle.book.proofs.definitions.RisingLaws.{idsRise-rises, rises-idsRise, rises-without}
 use Rattle.book.proofs.definitions.OnlyTradingLaws.{unowned-only-trades}
 use Rattle.book.proofs.definitions.OwnOrderLaws.{trades-as-without-own}
@@ -37,8 +37,8 @@ use Rattle.engine.specs.declared.Move.the-variants.{Stay, Cancel, Repric
 use Rattle.engine.specs.rules.Market.{marketAfter}
 use Rattle.engine.specs.rules.Reports.{Report, accepted, executed, cancelled, repriced, restrictionStarts, dayEnded}
 use Rattle.engine.specs.rules.Working.{orderOf, remainder, afterRemainder, happened, work}
-use Rattle.engine.specs.rules.Pass.{atNewPrice, Effect, afterMove, passOne, passOver}
-use Rattle.engine.specs.rules.Venue.{Venue, opened, entering, effectOfEntry, effectOfCancel, thePass, restrictionReport, cancelledAtEnd, effectOfDayEnd, effectOf}
+use Rattle.engine.specs.rules.Pass.{atNewPrice, afterMove, passOne, passOver}
+use Rattle.engine.specs.rules.Venue.{Venue, opened, entering, effectOfEntry, effectOfCancel, thePass, effectOfDayEnd, effectOf}
 use Rattle.engine.specs.rules.Sound.{sound}
 use Rattle.engine.specs.rules.Refusals.{refusal}
 use Rattle.engine.specs.rules.Run.{Step, stepUnless, step, Call, Run, run}
@@ -46,17 +46,18 @@ use Rattle.engine.specs.rules.Records.{reportsBytes}
 use Rattle.engine.specs.rules.Answers.{countOf, bufferAfter}
 use Rattle.engine.specs.rules.Layout.{venueOf, stepIn}
 use Rattle.engine.specs.steps.Steps.{moveInPass}
-use Rattle.engine.specs.claims.Account.{setAt}
 use Rattle.engine.specs.claims.Calls.{AppliedCall, Chain}
-use Rattle.engine.specs.claims.Owners.{Owners, noOwners, ownersAfter, worksNow, readOwners, ownersBy, ownersFrom, ownersOf, FirmsApart, NoFirmTradesWithItself, OwnersShown, OwnersAreShown, FirmsApartInCalls, NoFirmTradesWithItselfInCalls, unownedWork, unownedEntering, unownedMove, unownedTurn, unownedPass, unownedEffect, unownedUnless, unownedStep, Unowned, NamesNoOwner, UnownedAsBefore, KindOneAsBefore, unownedStepIn, UnownedCallsAsBefore, executionsIn, executionsWithoutOwn, EntriesTradeAsWithoutOwn, RepricedTradeAsWithoutOwn, WithoutOwnInBytes, EntriesTradeAsWithoutOwnInCalls}
+use Rattle.engine.specs.claims.Reading.{Entered}
+use Rattle.engine.specs.claims.Owners.{Owners, noOwners, ownersAfter, worksNow, readOwners, readingOwners, ownersOf, FirmsApart, NoFirmTradesWithItself, OwnersShown, OwnersAreShown, FirmsApartInCalls, NoFirmTradesWithItselfInCalls, unownedWork, unownedEntering, unownedMove, unownedTurn, unownedPass, unownedEffect, unownedUnless, unownedStep, Unowned, NamesNoOwner, UnownedAsBefore, KindOneAsBefore, unownedStepIn, UnownedCallsAsBefore, executionsIn, executionsWithoutOwn, EntriesTradeAsWithoutOwn, RepricedTradeAsWithoutOwn, WithoutOwnInBytes, EntriesTradeAsWithoutOwnInCalls}
 use Rattle.engine.proofs.refinement.RefusalLaws.{EntryAllowed, Allowed, NotRefused, Unless, refusal-known}
 use Rattle.engine.proofs.refinement.OpeningLaws.{opening-known, opened-book, opened-venue, step-in}
 use Rattle.engine.proofs.demand3.MarketLaws.{HasPermitted}
 use Rattle.engine.proofs.demand3.TallyLaws.{setAt-same, setAt-other}
-use Rattle.engine.proofs.demand3.WorkingKeeps.{afterRemainder-all, work-all}
-use Rattle.engine.proofs.demand3.SoundLaws.{SoundBook, book-distinct, book-others, RemainderOf, remainder-known, passOne-sound, SoundVenue, sound-venue, market-permits}
+use Rattle.engine.proofs.demand3.WorkingKeeps.{work-all}
+use Rattle.engine.proofs.demand3.SoundLaws.{SoundBook, book-distinct, book-others, passOne-sound, SoundVenue, sound-venue, market-permits}
 use Rattle.engine.proofs.demand3.CallLaws.{accepted-call, Readable, step-readable, bytes-read, callOf, fresh-run}
 use Rattle.engine.proofs.requests.PassLaws.{afterMove-all, thePass-all}
+use Rattle.engine.proofs.requests.ReadingLaws.{Kept, opened-reads}
 use Rattle.engine.proofs.requests.WordStepLaws.{in-words, call-does}
 
 -- No firm trades with itself
@@ -136,76 +137,17 @@ module _ (w o : Order) (os : List Order) (c : Owners) (r : Reached w os (some o)
   meeting-works =
       meeting-by-owner (λ (x : Meeting). Works (x .left) (x .orders) (readHappening c (x .happening))) w o os withdrawing-works trading-works
 
--- what becomes of the remainder names no other order
-
-remainder-tells : (c : Owners) (x : Remainder) (w : Order) (os : List Order) → RemainderOf w x → foldl readOwners c ((afterRemainder x w os) .reports) ≡ c
-unfolding afterRemainder
-remainder-tells c Filled w os h = refl
-remainder-tells c (Cancelled cause) w os h = pick-no (eqb cause 5) _ _ (ne→T cause 5 (λ e. omega (arith, h .1)))
-remainder-tells c Rests w os h = refl
-
--- between and in events: the column knows all resting orders, and the firms are apart
+-- wherever no order works: the column knows all resting orders, and the firms are apart
 record Agrees (os : List Order) (c : Owners) : Type 0 where
   known : All (Knows c) os
   apart : FirmsApart c
 
-work-agrees : (w : Order) (os : List Order) (c : Owners) → Works w os c → Agrees ((work w os) .orders) (foldl readOwners c ((work w os) .reports))
-unfolding work
-work-agrees w os c i =
-    let m : Matched = matching w os in
-    let d : Owners = foldl readHappening c (m .happenings) in
-    let k : Works (m .left) (m .orders) d = matching-keeps readHappening Works meeting-works w os c i in
-    rw (foldl-append, foldl-map, remainder-tells d (remainder (m .left)) (m .left) (m .orders) (remainder-known (m .left)))
-    (record { known = afterRemainder-all (Knows d) (remainder (m .left)) (m .left) (m .orders) (k .own) (k .others); apart = k .apart })
+-- both as claims of the last stamp too, which they don't need
+abbrev AgreesAt : ℕ → List Order → Owners → Type 0
+AgreesAt s os c = Agrees os c
 
--- the pass
-
-afterMove-agrees : (x : Move) (o : Order) (os : List Order) (s : ℕ) (c : Owners) → Distinct os → List·Memᴰ o os → Agrees os c → Agrees ((afterMove x o os s) .orders) (foldl readOwners c ((afterMove x o os s) .reports))
-unfolding afterMove pick
-afterMove-agrees Stay o os s c d m i = i
-afterMove-agrees Cancel o os s c d m i = record { known = without-all (Knows c) (o .id) os (i .known); apart = i .apart }
-afterMove-agrees (Reprice p u) o os s c d m i =
-    let n : Owners = worksNow (o .id) c in
-    work-agrees (atNewPrice p (s + 1) u o) (without (o .id) os) n
-    (record {
-      distinct = without-differ idOf (o .id) os d;
-      own = taken-all (Knows c) (mem-taken m d) (i .known) .0;
-      apart-ids = without-other (o .id) os;
-      others = without-all (Knows n) (o .id) os (i .known);
-      working = refl;
-      apart = record { trades = i .apart .trades; withdrawals = i .apart .withdrawals };
-    })
-
-module _ (m : Market) (t : HasPermitted m) (n : ℕ) where
-  passOne-agrees : (i : ℕ) (x : Option Order) (os : List Order) (s : ℕ) (c : Owners) → Found i os x → Distinct os → Agrees os c → Agrees ((passOne m x os s) .orders) (foldl readOwners c ((passOne m x os s) .reports))
-  unfolding passOne
-  passOne-agrees i none os s c f d h = h
-  passOne-agrees i (some o) os s c f d h = afterMove-agrees (moveInPass m o) o os s c d (f .0) h
-
-  passOver-agrees : (is : List ℕ) (os : List Order) (s : ℕ) (c : Owners) → SoundBook (m .step) n s os → Agrees os c → Agrees ((passOver m is os s) .orders) (foldl readOwners c ((passOver m is os s) .reports))
-  unfolding passOver
-  passOver-agrees [] os s c b h = h
-  passOver-agrees (i ∷ is) os s c b h =
-      let x : Effect = passOne m (find i os) os s in
-      let f = find-found i os in
-      rw foldl-append (passOver-agrees is (x .orders) (x .stamp) (foldl readOwners c (x .reports)) (passOne-sound m t n i (find i os) os s f b .0) (passOne-agrees i (find i os) os s c f (book-distinct b) h))
-
-thePass-agrees : (m : Market) → HasPermitted m → (v : Venue) (c : Owners) → SoundBook (m .step) (v .lastId) (v .lastStamp) (v .orders) → Agrees (v .orders) c → Agrees ((thePass m v) .orders) (foldl readOwners c ((thePass m v) .reports))
-unfolding thePass
-thePass-agrees m t v c b h = passOver-agrees m t (v .lastId) _ (v .orders) (v .lastStamp) c b h
-
-tape-agrees : (m : Market) → HasPermitted m → (v : Venue) (c : Owners) → SoundBook (m .step) (v .lastId) (v .lastStamp) (v .orders) → Agrees (v .orders) c → Agrees ((thePass m v) .orders) (foldl readOwners c (restrictionReport (v .market) m ++ (thePass m v) .reports))
-unfolding restrictionReport
-tape-agrees m t v c b h =
-    let r = thePass-agrees m t v c b h in
-    by-test (λ (rs : List Report). Agrees ((thePass m v) .orders) (foldl readOwners c (rs ++ (thePass m v) .reports))) _ (λ x. r) (λ x. r)
-
--- events
-
-all-cancelled : (c : Owners) (p : ℕ) (os : List Order) → foldl readOwners c (map cancelledAtEnd os ++ dayEnded p ∷ []) ≡ c
-unfolding pick
-all-cancelled c p [] = refl
-all-cancelled c p (o ∷ os) = all-cancelled c p os
+abbrev WorksAt : ℕ → Order → List Order → Owners → Type 0
+WorksAt s w os c = Works w os c
 
 -- the beginning of an event with a column f of owners
 abbrev begun : (ℕ → ℕ) → Owners → Owners
@@ -214,49 +156,50 @@ begun f c = record { owner = f; working = 0; trades = c.trades; withdrawals = c.
 begun-agrees : {os : List Order} {c : Owners} → Agrees os c → Agrees os (begun (c .owner) c)
 begun-agrees h = record { known = h .known; apart = record { trades = h .apart .trades; withdrawals = h .apart .withdrawals } }
 
--- an entry of either kind, with its owner
-abbrev named : Entry → ℕ → Owners → Owners
-named e k c = begun (setAt (e .id) k (c .owner)) c
-
-entry-agrees : (v : Venue) (e : Entry) (k : ℕ) (c : Owners) → EntryAllowed v e → SoundVenue v → Agrees (v .orders) c → let x : Effect = effectOfEntry (v .market) v k e in Agrees (x .orders) (foldl readOwners (named e k c) (x .reports))
-unfolding effectOfEntry entering orderOf
-entry-agrees v e k c a g h =
-    let n : Owners = worksNow (e .id) (named e k c) in
-    let new : All (Other (e .id)) (v .orders) = book-others (g .book) (a .place .newId) in
-    work-agrees (orderOf (v .market) (v .lastStamp + 1) k e) (v .orders) n
-    (record {
+enters-works : (v : Venue) (x : Entered) (c : Owners) → EntryAllowed v (x .entry) → SoundVenue v → Agrees (v .orders) c → Works (orderOf (v .market) (v .lastStamp + 1) (x .owner) (x .entry)) (v .orders) (worksNow (x.entry.id) (ownersAfter (some x) c))
+unfolding orderOf
+enters-works v x c a g h =
+    let i : ℕ = x.entry.id in
+    let new : All (Other i) (v .orders) = book-others (g .book) (a .place .newId) in
+    record {
       distinct = book-distinct (g .book);
-      own = sym (setAt-same (e .id) k (c .owner));
+      own = sym (setAt-same i (x .owner) (c .owner));
       apart-ids = new;
-      others = all-both (λ x i z. i ∙ sym (setAt-other (e .id) k (c .owner) (x .id) z)) (v .orders) (h .known) new;
+      others = all-both (λ y k z. k ∙ sym (setAt-other i (x .owner) (c .owner) (y .id) z)) (v .orders) (h .known) new;
       working = refl;
       apart = record { trades = h .apart .trades; withdrawals = h .apart .withdrawals };
-    })
+    }
 
-effect-agrees : (v : Venue) (e : Event) (c : Owners) → Allowed v e → SoundVenue v → Agrees (v .orders) c → let x : Effect = effectOf (marketAfter e (v .market)) v e in Agrees (x .orders) (foldl readOwners (ownersAfter e c) (x .reports))
-unfolding effectOf effectOfCancel effectOfDayEnd pick
-effect-agrees v (entry e) c a g h = entry-agrees v e 0 c a g h
-effect-agrees v (cancel i) c a g h = record { known = without-all (Knows c) i (v .orders) (h .known); apart = begun-agrees h .apart }
-effect-agrees v (bid b) c a g h = thePass-agrees _ (g .market .step, a) v _ (g .book) (begun-agrees h)
-effect-agrees v (tape p) c a g h = tape-agrees _ (market-permits (g .market)) v _ (g .book) (begun-agrees h)
-effect-agrees v (dayEnd p) c a g h = rw (all-cancelled (begun (c .owner) c) _ (v .orders)) (record { known = tt; apart = begun-agrees h .apart })
-effect-agrees v (ownedEntry e k) c a g h = entry-agrees v e k c (a .0) g h
+repriced-works : (o : Order) (os : List Order) (s p : ℕ) (used : Bool) (c : Owners) → List·Memᴰ o os → Distinct os → Agrees os c → Works (atNewPrice p (s + 1) used o) (without (o .id) os) (worksNow (o .id) c)
+repriced-works o os s p used c m d h =
+    record {
+      distinct = without-differ idOf (o .id) os d;
+      own = taken-all (Knows c) (mem-taken m d) (h .known) .0;
+      apart-ids = without-other (o .id) os;
+      others = without-all (Knows c) (o .id) os (h .known);
+      working = refl;
+      apart = record { trades = h .apart .trades; withdrawals = h .apart .withdrawals };
+    }
 
--- every list
-
-unless-agrees : (x : Option ℕ) (v : Venue) (c : Owners) (e : Event) (n : ℕ) → Unless x (NotRefused v e n) → Agrees (v .orders) c → Agrees ((stepUnless x v e) .venue .orders) (ownersBy c e ((stepUnless x v e) .answer))
-unfolding stepUnless
-unless-agrees (some k) v c e n u h = h
-unless-agrees none v c e n u h = effect-agrees v e c (u .allowed) (sound-venue v (u .sound)) h
-
-run-agrees : (cs : List Call) (v : Venue) (c : Owners) → Agrees (v .orders) c → let r : Run = run v cs in Agrees (r .venue .orders) (ownersFrom c (r .answered))
-unfolding run step
-run-agrees [] v c h = h
-run-agrees (x ∷ xs) v c h = run-agrees xs _ _ (unless-agrees _ v c (x .event) (x .buffer) (refusal-known v (x .event) (x .buffer)) h)
+owners-kept : Kept readingOwners AgreesAt WorksAt
+unfolding orderOf
+owners-kept =
+    record {
+      begins = λ s os c h. begun-agrees h;
+      enters = enters-works;
+      reprices = λ m o os s p used c e i b h. repriced-works o os s p used c i (book-distinct b) h;
+      meets = λ w o os c b r i. meeting-works w o os c r i;
+      gone = λ s w os c i. record { known = i .others; apart = i .apart };
+      rests = λ s w os c i. record { known = all-taken (Knows c) (insert-taken w os) (i .own) (i .others); apart = i .apart };
+      leaves = λ s i os c h. record { known = without-all (Knows c) i os (h .known); apart = h .apart };
+      empties = λ s os c h. record { known = tt; apart = h .apart };
+      cancelledTells = λ c i q cause l. pick-no (eqb cause 5) _ _ (ne→T cause 5 (λ e. omega (arith, l)));
+      startsTells = λ c. refl;
+      endedTells = λ c p. refl;
+    }
 
 opened-agrees : (s close : ℕ) (cs : List Call) → let r : Run = run (opened s close) cs in Agrees (r .venue .orders) (ownersOf (r .answered))
-unfolding opened
-opened-agrees s close cs = run-agrees cs (opened s close) noOwners (record { known = tt; apart = record { trades = tt; withdrawals = tt } })
+opened-agrees s close cs = opened-reads readingOwners AgreesAt WorksAt owners-kept s close noOwners (record { known = tt; apart = record { trades = tt; withdrawals = tt } }) cs
 
 pub no-firm-trades-with-itself : NoFirmTradesWithItself
 no-firm-trades-with-itself s close v o cs = rw (opening-known s close v o .fresh) (opened-agrees s close cs .apart)

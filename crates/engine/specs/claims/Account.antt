@@ -45,7 +45,7 @@ pub record Account : Type 0 where
   pub tallies : Tallies
 
 -- the column with x at k; the column with q more at k
-unfoldable pub setAt : ℕ → ℕ → (ℕ → ℕ) → ℕ → ℕ
+unfoldable pub setAt : {A : Type 0} → ℕ → A → (ℕ → A) → ℕ → A
 setAt k x f j = pick (eqb j k) x (f j)
 
 abbrev pub addAt : ℕ → ℕ → (ℕ → ℕ) → ℕ → ℕ

@@ -3,7 +3,7 @@
 use Prim.Native.Nat.{ℕ, _+_, _<_}
 use mathlib.Core.Path.{_≡_}
 use mathlib.Core.Bool.{Bool}
-use mathlib.Core.List.{List, [], _∷_, _++_, map, foldl}
+use mathlib.Core.List.{List, [], _∷_, _++_, map}
 use mathlib.Core.Option.{Option, none, some}
 use lib.Dec.{T, eqb}
 use lib.ListN.{length}
@@ -34,6 +34,7 @@ use Rattle.engine.specs.rules.Records.{reportsUpTo}
 use Rattle.engine.specs.rules.Layout.{venueOf, refusedLayout, openedWords}
 use Rattle.engine.specs.claims.RoundTrips.{Word}
 use Rattle.engine.specs.claims.Account.{setAt}
+use Rattle.engine.specs.claims.Reading.{Entered, Reading, readFrom}
 use Rattle.engine.specs.claims.Calls.{Applied, CallDoes, AppliedCall, Chain, answeredOf}
 
 -- The account of owners
@@ -62,18 +63,13 @@ pub record Owners : Type 0 where
 abbrev pub noOwners : Owners
 noOwners = record { owner = λ k. 0; working = 0; trades = []; withdrawals = [] }
 
--- "Event kind 6 is an entry with an owner .. kind 1 has owner 0"
-abbrev pub namedBy : Event → (ℕ → ℕ) → ℕ → ℕ
-namedBy (entry e) f = setAt (e .id) 0 f
-namedBy (cancel i) f = f
-namedBy (bid b) f = f
-namedBy (tape p) f = f
-namedBy (dayEnd x) f = f
-namedBy (ownedEntry e k) f = setAt (e .id) k f
+-- an accepted event begins: no order works yet, and an entry names its owner
+abbrev pub namedBy : Option Entered → (ℕ → ℕ) → ℕ → ℕ
+namedBy none f = f
+namedBy (some x) f = setAt (x.entry.id) (x .owner) f
 
--- an accepted event begins: no order works yet
-abbrev pub ownersAfter : Event → Owners → Owners
-ownersAfter e c = record { owner = namedBy e (c .owner); working = 0; trades = c.trades; withdrawals = c.withdrawals }
+abbrev pub ownersAfter : Option Entered → Owners → Owners
+ownersAfter x c = record { owner = namedBy x (c .owner); working = 0; trades = c.trades; withdrawals = c.withdrawals }
 
 -- "Report 1 or 4 .. that order is now the working one"
 abbrev pub worksNow : ℕ → Owners → Owners
@@ -101,17 +97,12 @@ readOwners c (repriced k p s) = worksNow k c
 readOwners c restrictionStarts = c
 readOwners c (dayEnded p) = c
 
--- one event with its answer: "A refused event changes nothing"
-abbrev pub ownersBy : Owners → Event → Outcome (List Report) → Owners
-ownersBy c e (refuses n) = c
-ownersBy c e (gives rs) = foldl readOwners (ownersAfter e c) rs
-
-abbrev pub ownersFrom : Owners → List Answered → Owners
-ownersFrom c xs = foldl (λ (d : Owners) (x : Answered). ownersBy d (x .event) (x .answer)) c xs
-
 -- the account of events with their answers
+abbrev pub readingOwners : Reading Owners
+readingOwners = record { begin = ownersAfter; read = readOwners }
+
 abbrev pub ownersOf : List Answered → Owners
-ownersOf xs = ownersFrom noOwners xs
+ownersOf xs = readFrom readingOwners noOwners xs
 
 -- The law
 

@@ -1,0 +1,124 @@
+-- What an account that reads events, answers and reports says of the book is kept over every list, where it is kept by an order that enters, one that is
+-- re-priced, and a meeting. Assumes nothing.
+use Prim.Native.Nat.{ℕ, _+_, _≤_}
+use native.Mathlib.Omega.{arith}
+use mathlib.Core.Path.{_≡_, refl}
+use mathlib.Core.List.{List, [], _∷_, _++_, map, foldl, foldl-append, foldl-map, List·Memᴰ}
+use mathlib.Core.Option.{Option, none, some}
+use mathlib.Core.Bool.{Bool}
+use Rattle.numbers.proofs.TestLaws.{by-test}
+use Rattle.book.specs.declared.Order.{Order}
+use Rattle.book.specs.rules.Orders.{without, insert}
+use Rattle.book.specs.rules.Matching.{Happening, Meeting, meeting, Matched, matching}
+use Rattle.book.proofs.definitions.CounterpartyLaws.{Reached}
+use Rattle.book.proofs.definitions.MatchingLaws.{matching-keeps}
+use Rattle.engine.specs.declared.Market.{Market}
+use Rattle.engine.specs.declared.Event.{Event}
+use Rattle.engine.specs.declared.Event.the-variants.{Entry as entry, Cancel as cancel, Bid as bid, Tape as tape, DayEnd as dayEnd, OwnedEntry as ownedEntry}
+use Rattle.engine.specs.declared.Remainder.{Remainder}
+use Rattle.engine.specs.declared.Remainder.the-variants.{Filled, Cancelled, Rests}
+use Rattle.engine.specs.declared.Move.{Move}
+use Rattle.engine.specs.declared.Move.the-variants.{Stay, Cancel, Reprice}
+use Rattle.engine.specs.rules.Market.{marketAfter}
+use Rattle.engine.specs.rules.Reports.{Report, accepted, cancelled, repriced, restrictionStarts, dayEnded}
+use Rattle.engine.specs.rules.Working.{orderOf, remainder, afterRemainder, happened, work}
+use Rattle.engine.specs.rules.Pass.{atNewPrice, afterMove}
+use Rattle.engine.specs.rules.Venue.{Venue, opened, entering, effectOfEntry, effectOfCancel, thePass, restrictionReport, effectOfTape, cancelledAtEnd, effectOfDayEnd, effectOf}
+use Rattle.engine.specs.rules.Run.{stepUnless, step, Call, Run, run}
+use Rattle.engine.specs.steps.Steps.{moveInPass}
+use Rattle.engine.specs.claims.Reading.{Entered, enteredBy, Reading, afterAnswer, readFrom}
+use Rattle.engine.proofs.refinement.RefusalLaws.{EntryAllowed, Allowed, NotRefused, Unless, refusal-known}
+use Rattle.engine.proofs.demand3.MarketLaws.{HasPermitted}
+use Rattle.engine.proofs.demand3.SoundLaws.{SoundBook, SoundWork, RemainderOf, remainder-known, meeting-sound, moveOf-sound, atNewPrice-sound, book-order, SoundVenue, sound-venue, market-permits, orderOf-sound}
+use Rattle.engine.proofs.requests.PassLaws.{AfterReading, thePass-reads}
+
+-- I is claimed of the last stamp, the book and the account wherever no order works, W of the last stamp, the working order, the book and the account while one does
+module _ {A : Type 0} (r : Reading A) (I : ℕ → List Order → A → Type 0) (W : ℕ → Order → List Order → A → Type 0) where
+  pub record Kept : Type 0 where
+    -- an event that is no entry begins
+    pub begins : (s : ℕ) (os : List Order) (c : A) → I s os c → I s os (r .begin none c)
+    -- an entry of either kind, and its report 1
+    pub enters : (v : Venue) (x : Entered) (c : A) → EntryAllowed v (x .entry) → SoundVenue v → I (v .lastStamp) (v .orders) c → let o : Order = orderOf (v .market) (v .lastStamp + 1) (x .owner) (x .entry) in W (v .lastStamp + 1) o (v .orders) (r .read (r .begin (some x) c) (accepted (o .id) (o .stamp) (o .price)))
+    -- an order that the pass re-prices, and its report 4
+    pub reprices : {g n : ℕ} (m : Market) (o : Order) (os : List Order) (s p : ℕ) (used : Bool) (c : A) → moveInPass m o ≡ Reprice p used → List·Memᴰ o os → SoundBook g n s os → I s os c → W (s + 1) (atNewPrice p (s + 1) used o) (without (o .id) os) (r .read c (repriced (o .id) p (s + 1)))
+    pub meets : {g n s : ℕ} (w o : Order) (os : List Order) (c : A) → SoundWork g n s w os → Reached w os (some o) → W s w os c → let x : Meeting = meeting w o os in W s (x .left) (x .orders) (r .read c (happened (x .happening)))
+    -- the working order is gone, or rests
+    pub gone : (s : ℕ) (w : Order) (os : List Order) (c : A) → W s w os c → I s os c
+    pub rests : (s : ℕ) (w : Order) (os : List Order) (c : A) → W s w os c → I s (insert w os) c
+    -- orders leave
+    pub leaves : (s i : ℕ) (os : List Order) (c : A) → I s os c → I s (without i os) c
+    pub empties : (s : ℕ) (os : List Order) (c : A) → I s os c → I s [] c
+    -- reports that tell it nothing
+    pub cancelledTells : (c : A) (i q cause : ℕ) → cause ≤ 4 → r .read c (cancelled i q cause) ≡ c
+    pub startsTells : (c : A) → r .read c restrictionStarts ≡ c
+    pub endedTells : (c : A) (p : ℕ) → r .read c (dayEnded p) ≡ c
+
+  module _ (k : Kept) where
+    -- an order works
+
+    remainder-reads : (s : ℕ) (x : Remainder) (w : Order) (os : List Order) (c : A) → RemainderOf w x → W s w os c → I s ((afterRemainder x w os) .orders) (foldl (r .read) c ((afterRemainder x w os) .reports))
+    unfolding afterRemainder
+    remainder-reads s Filled w os c f h = k .gone s w os c h
+    remainder-reads s (Cancelled cause) w os c f h = rw (k .cancelledTells c (w .id) (w .shares) cause (omega (arith, f .1))) (k .gone s w os c h)
+    remainder-reads s Rests w os c f h = k .rests s w os c h
+
+    work-reads : {g n s : ℕ} (w : Order) (os : List Order) (c : A) → SoundWork g n s w os → W s w os c → I s ((work w os) .orders) (foldl (r .read) c ((work w os) .reports))
+    unfolding work
+    work-reads {g} {n} {s} w os c b h =
+        let m : Matched = matching w os in
+        let z = matching-keeps (λ (d : A) (x : Happening). r .read d (happened x)) (λ x l d. SoundWork g n s x l × W s x l d) (λ x o l d t i. (meeting-sound (t .0) (i .0), k .meets x o l d (i .0) t (i .1))) w os c (b, h) in
+        rw (foldl-append, foldl-map) (remainder-reads s (remainder (m .left)) (m .left) (m .orders) _ (remainder-known (m .left)) (z .1))
+
+    -- events
+
+    entry-reads : (v : Venue) (x : Entered) (c : A) → EntryAllowed v (x .entry) → x.owner ≤ 65_535 → SoundVenue v → I (v .lastStamp) (v .orders) c → AfterReading (r .read) I (effectOfEntry (v .market) v (x .owner) (x .entry)) (r .begin (some x) c)
+    unfolding effectOfEntry entering orderOf
+    entry-reads v x c a l g h = work-reads _ (v .orders) _ (orderOf-sound v (x .entry) (x .owner) a l g) (k .enters v x c a g h)
+
+    turn-reads : {n : ℕ} (m : Market) → HasPermitted m → (o : Order) (os : List Order) (s : ℕ) (c : A) → List·Memᴰ o os → SoundBook (m .step) n s os → I s os c → AfterReading (r .read) I (afterMove (moveInPass m o) o os s) c
+    unfolding afterMove
+    turn-reads m t o os s c i b h = go (moveInPass m o) refl
+      where
+        go : (y : Move) → moveInPass m o ≡ y → AfterReading (r .read) I (afterMove y o os s) c
+        go Stay e = h
+        go Cancel e = rw (k .cancelledTells c (o .id) (o .shares) 3 (omega arith)) (k .leaves s (o .id) os c h)
+        go (Reprice p used) e =
+            work-reads (atNewPrice p (s + 1) used o) (without (o .id) os) _ (atNewPrice-sound p used (rw e at (moveOf-sound m t o (book-order b i .works .fields))) i b) (k .reprices m o os s p used c e i b h)
+
+    pass-reads : (m : Market) (v : Venue) (c : A) → HasPermitted m → SoundBook (m .step) (v .lastId) (v .lastStamp) (v .orders) → I (v .lastStamp) (v .orders) c → AfterReading (r .read) I (thePass m v) (r .begin none c)
+    pass-reads m v c t b h = thePass-reads m v t b (r .read) I (turn-reads m t) (r .begin none c) (k .begins (v .lastStamp) (v .orders) c h)
+
+    tape-reads : (m : Market) (v : Venue) (c : A) → HasPermitted m → SoundBook (m .step) (v .lastId) (v .lastStamp) (v .orders) → I (v .lastStamp) (v .orders) c → AfterReading (r .read) I (effectOfTape m v) (r .begin none c)
+    unfolding restrictionReport
+    tape-reads m v c t b h =
+        let p = pass-reads m v c t b h in
+        by-test (λ (rs : List Report). I (thePass m v .stamp) (thePass m v .orders) (foldl (r .read) (r .begin none c) (rs ++ thePass m v .reports))) _ (λ x. p) (λ x. rw (foldl, k .startsTells (r .begin none c)) p)
+
+    all-cancelled : (c : A) (p : ℕ) (os : List Order) → foldl (r .read) c (map cancelledAtEnd os ++ dayEnded p ∷ []) ≡ c
+    all-cancelled c p [] = k .endedTells c p
+    all-cancelled c p (o ∷ os) = rw (foldl, k .cancelledTells c (o .id) (o .shares) 4 (omega arith)) (all-cancelled c p os)
+
+    effect-reads : (v : Venue) (e : Event) (c : A) → Allowed v e → SoundVenue v → I (v .lastStamp) (v .orders) c → AfterReading (r .read) I (effectOf (marketAfter e (v .market)) v e) (r .begin (enteredBy e) c)
+    unfolding effectOf effectOfCancel effectOfDayEnd
+    effect-reads v (entry e) c a g h = entry-reads v (record { entry = e; owner = 0 }) c a (omega arith) g h
+    effect-reads v (cancel i) c a g h = rw (k .cancelledTells (r .begin none c) i _ 1 (omega arith)) (k .leaves (v .lastStamp) i (v .orders) _ (k .begins (v .lastStamp) (v .orders) c h))
+    effect-reads v (bid b) c a g h = pass-reads _ v c (g .market .step, a) (g .book) h
+    effect-reads v (tape p) c a g h = tape-reads _ v c (market-permits (g .market)) (g .book) h
+    effect-reads v (dayEnd p) c a g h = rw (all-cancelled (r .begin none c) _ (v .orders)) (k .empties (v .lastStamp) (v .orders) _ (k .begins (v .lastStamp) (v .orders) c h))
+    effect-reads v (ownedEntry e o) c a g h = entry-reads v (record { entry = e; owner = o }) c (a .0) (a .1 .most) g h
+
+    -- every list
+
+    unless-reads : (x : Option ℕ) (v : Venue) (c : A) (e : Event) (n : ℕ) → Unless x (NotRefused v e n) → I (v .lastStamp) (v .orders) c → let w : Venue = stepUnless x v e .venue in I (w .lastStamp) (w .orders) (afterAnswer r c e (stepUnless x v e .answer))
+    unfolding stepUnless
+    unless-reads (some n) v c e b u h = h
+    unless-reads none v c e b u h = effect-reads v e c (u .allowed) (sound-venue v (u .sound)) h
+
+    pub run-reads : (cs : List Call) (v : Venue) (c : A) → I (v .lastStamp) (v .orders) c → let x : Run = run v cs in I (x .venue .lastStamp) (x .venue .orders) (readFrom r c (x .answered))
+    unfolding run step
+    run-reads [] v c h = h
+    run-reads (x ∷ xs) v c h = run-reads xs _ _ (unless-reads _ v c (x .event) (x .buffer) (refusal-known v (x .event) (x .buffer)) h)
+
+    pub opened-reads : (s close : ℕ) (c : A) → I 0 [] c → (cs : List Call) → let x : Run = run (opened s close) cs in I (x .venue .lastStamp) (x .venue .orders) (readFrom r c (x .answered))
+    unfolding opened
+    opened-reads s close c h cs = run-reads cs (opened s close) c h
