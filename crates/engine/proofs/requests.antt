@@ -10,3 +10,4 @@ pub mod FallingAgainLaws
 pub mod OwnerLaws
 pub mod FullBookLaws
 pub mod FullBookReachedLaws
+pub mod SlidPriceLaws

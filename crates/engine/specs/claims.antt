@@ -14,3 +14,4 @@ pub mod WhichCode
 pub mod Fill
 pub mod FallingAgain
 pub mod FullBook
+pub mod SlidPrices

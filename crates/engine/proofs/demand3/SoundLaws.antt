@@ -70,7 +70,7 @@ module _ {g n s : ℕ} {os : List Order} (b : SoundBook g n s os) where
   book-later : (m r : ℕ) → n ≤ m → s ≤ r → SoundBook g m r os
   book-later m r l k = record { few = b .few; rises = b .rises; orders = all-map (mayRest-later g n s m r l k) os (b .orders); stamps = b .stamps }
 
-  book-without : (i : ℕ) → SoundBook g n s (without i os)
+  pub book-without : (i : ℕ) → SoundBook g n s (without i os)
   book-without i =
       record {
         few = omega (arith, without-length i os, b .few);
