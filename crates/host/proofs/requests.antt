@@ -3,3 +3,4 @@ pub mod FillLaws
 pub mod FallingAgainLaws
 pub mod OwnerLaws
 pub mod FullBookLaws
+pub mod SlidPriceLaws

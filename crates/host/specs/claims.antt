@@ -7,3 +7,4 @@ pub mod HostFill
 pub mod HostFallingAgain
 pub mod HostOwners
 pub mod HostFullBook
+pub mod HostSlidPrices

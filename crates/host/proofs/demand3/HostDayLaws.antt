@@ -14,6 +14,8 @@ use Rattle.numbers.specs.SevenBit.{IsByte, Stands, overwrite}
 use Rattle.numbers.proofs.TestLaws.{by-test, pick-yes, T-false, ne→T, eq→T}
 use Rattle.numbers.proofs.ByteLaws.{two-bytes, numbers-bytes}
 use Rattle.numbers.proofs.PlaceLaws.{stands-first, stands-front, stands-behind, stands-longer}
+use Rattle.prices.specs.Prices.{isStep, legal}
+use Rattle.book.specs.rules.Words.{isBook}
 use Rattle.engine.specs.declared.Event.{Event}
 use Rattle.engine.specs.rules.Reports.{Report}
 use Rattle.engine.specs.rules.Venue.{Venue, opened}
@@ -24,7 +26,7 @@ use Rattle.engine.specs.rules.Records.{recordNumbers, recordBytes, reportsBytes
 use Rattle.engine.specs.rules.Answers.{countOf, bufferAfter}
 use Rattle.engine.specs.rules.Layout.{venueOf, soundWords}
 use Rattle.engine.specs.claims.RoundTrips.{Word}
-use Rattle.engine.specs.claims.Calls.{Applied}
+use Rattle.engine.specs.claims.Calls.{Applied, AppliedCall, Chain}
 use Rattle.engine.proofs.bytes.RecordLaws.{not-given, record-read-back, record-unique, read-inside, reports-first}
 use Rattle.engine.proofs.refinement.RefuseLaws.{words-book, words-sound, sound-words}
 use Rattle.engine.proofs.refinement.OpeningLaws.{opening-gives, step-in}
@@ -39,10 +41,10 @@ use Rattle.days.proofs.DayLaws.{broken-day}
 use Rattle.days.proofs.DayRunLaws.{played-one-by-one, run-then, StoppedAt, stopped-at, reads-then, reads-same, NoneAt, reads-all}
 use Rattle.host.specs.rules.Host.{hostAnswer, endOrZero}
 use Rattle.host.specs.claims.Calls.{HostOpened, RecordApplied}
-use Rattle.host.specs.claims.HostCalls.{ApplyCall, ApplyChain, none, more, EventCall, withEvent, eventCalls, LongBuffer}
+use Rattle.host.specs.claims.HostCalls.{ApplyCall, ApplyChain, none, more, EventCall, withEvent, eventCalls, appliedCall, LongBuffer}
 use Rattle.host.specs.claims.HostDays.{PlayCall, PlayedBy, told, ownBuffer, callTold, cut, callsTold, callsPlayed, HostCall, apply, play, appliedOnly, answerOf, HostChain, none as noCalls, applied, played as day, oneByOne, DaysOneByOne, Demand3OfDays, NoDayGets16, EqualDayReports, Pieces, last, more as moreThen, piecesPlayed, PiecesAgree}
 use Rattle.host.proofs.refinement.HostLaws.{outcome-told, event-applied, apply-read, opened-fresh}
-use Rattle.host.proofs.demand3.HostCallLaws.{demand3-of-hosts, no-host-gets-16, equal-host-reports}
+use Rattle.host.proofs.demand3.HostCallLaws.{events-of-calls, demand3-of-hosts, no-host-gets-16, equal-host-reports}
 
 -- the bytes of an event tell its answer
 
@@ -243,6 +245,12 @@ all-long (play c ∷ hs) h =
 pub equal-day-reports : EqualDayReports
 equal-day-reports s close w v w₀ v₀ h k hs gs w′ v′ c d q l m =
     equal-host-reports s close w v w₀ v₀ h k (oneByOne hs) (oneByOne gs) w′ v′ (calls c) (calls d) q (all-long hs l) (all-long gs m)
+
+-- what every chain of calls of apply from the words w₀ has, if they mean a fresh venue, calls of both kinds from venue_open on have
+pub for-hosts : {w w₀ w′ : List ℕ} {s close : ℕ} {hs : List HostCall} (Claim : List AppliedCall → List ℕ → Type 0) → (T (isStep s) → T (legal s close) → T (isBook w₀) → venueOf w₀ ≡ opened s close → (cs : List AppliedCall) (w″ : List ℕ) → Chain w₀ cs w″ → Claim cs w″) → HostOpened w s close 0 w₀ → HostChain w₀ hs w′ → Claim (map appliedCall (eventCalls (oneByOne hs))) w′
+for-hosts {w₀ = w₀} {w′ = w′} {hs = hs} Claim k h c =
+    let f = opened-fresh h in
+    k (f .is) (f .legal) (f .layout) (f .venue) (map appliedCall (eventCalls (oneByOne hs))) w′ (events-of-calls w₀ (oneByOne hs) w′ (days-one-by-one w₀ hs w′ c))
 
 -- no refusal 16
 

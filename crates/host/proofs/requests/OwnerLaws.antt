@@ -1,27 +1,21 @@
 -- No. 7 for hosts: from the theorems of calls of apply. Assumes nothing.
 use Prim.Native.Nat.{ℕ}
 use mathlib.Core.Path.{subst}
-use mathlib.Core.List.{map}
 use borrow.Author.Tests.{lt-ltb}
 use Rattle.numbers.specs.Tests.{pick}
 use Rattle.numbers.specs.Answers.{Outcome}
 use Rattle.engine.specs.declared.Event.the-variants.{OwnedEntry as ownedEntry}
 use Rattle.engine.specs.claims.Calls.{Applied}
+use Rattle.engine.specs.claims.Owners.{FirmsApartInCalls}
 use Rattle.engine.proofs.bytes.RecordLaws.{record-unique}
 use Rattle.engine.proofs.requests.OwnerLaws.{apart-from, unowned-calls-as-before, entries-trade-as-without-own-in-calls}
 use Rattle.host.specs.rules.Host.{outcomeOf}
 use Rattle.host.specs.claims.Calls.{EventApplied}
-use Rattle.host.specs.claims.HostCalls.{eventCalls, appliedCall}
-use Rattle.host.specs.claims.HostDays.{oneByOne}
 use Rattle.host.specs.claims.HostOwners.{NoFirmTradesWithItselfForHosts, UnownedCallsAsBeforeForHosts, EntriesTradeAsWithoutOwnForHosts}
-use Rattle.host.proofs.refinement.HostLaws.{opened-fresh}
-use Rattle.host.proofs.demand3.HostCallLaws.{events-of-calls}
-use Rattle.host.proofs.demand3.HostDayLaws.{days-one-by-one}
+use Rattle.host.proofs.demand3.HostDayLaws.{for-hosts}
 
 pub no-firm-trades-with-itself-for-hosts : NoFirmTradesWithItselfForHosts
-no-firm-trades-with-itself-for-hosts w s close w₀ h hs w′ c =
-    let f = opened-fresh h in
-    apart-from s close (f .is) (f .legal) (f .layout) (f .venue) (map appliedCall (eventCalls (oneByOne hs))) w′ (events-of-calls w₀ (oneByOne hs) w′ (days-one-by-one w₀ hs w′ c))
+no-firm-trades-with-itself-for-hosts w s close w₀ h hs w′ c = for-hosts FirmsApartInCalls (λ i t u f. apart-from s close i t u f) h c
 
 pub unowned-calls-as-before-for-hosts : UnownedCallsAsBeforeForHosts
 unowned-calls-as-before-for-hosts w bytes b answer w′ b′ a r e u o =
