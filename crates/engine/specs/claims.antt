@@ -5,6 +5,7 @@ pub mod Reached
 pub mod RoundTrips
 pub mod Reading
 pub mod Owners
+pub mod SlidPrices
 pub mod Examples
 pub mod Calls
 pub mod MarketOrders
@@ -14,4 +15,3 @@ pub mod WhichCode
 pub mod Fill
 pub mod FallingAgain
 pub mod FullBook
-pub mod SlidPrices

@@ -1,5 +1,7 @@
--- The twelve sums, the one day and the slides of document 01, a day of market orders, one at a step of 50, days of falls, entries with bad codes, questions whether an entry would fill, days of firms and full books, by computation. Assumes nothing.
-use mathlib.Core.Path.{refl}
+-- The twelve sums, the one day and the slides of document 01, a day of market orders, one at a step of 50, days of falls, entries with bad codes, questions whether an entry would fill, days of firms, full books and slid prices, by computation. Assumes nothing.
+use native.Mathlib.Omega.{arith}
+use mathlib.Core.Path.{_≡_, refl, sym, subst}
+use mathlib.Core.List.{List, [], _∷_}
 use Rattle.numbers.specs.Tests
 use Rattle.numbers.specs.SevenBit
 use Rattle.prices.specs.Prices
@@ -16,9 +18,11 @@ use Rattle.engine.specs.rules.Venue
 use Rattle.engine.specs.rules.Sound
 use Rattle.engine.specs.rules.Refusals
 use Rattle.engine.specs.rules.Run
+use Rattle.engine.specs.rules.Run.{Answered}
 use Rattle.engine.specs.rules.Fill
 use Rattle.engine.specs.claims.Account
-use Rattle.engine.specs.claims.Examples.{TwelveSums, HalfCentSums, Played, FirmsPlayedAtBoth, FullBookPlayedAtBoth, CodesInOrder, FillsTold, OtherSteps}
+use Rattle.engine.specs.claims.SlidPrices.{PricesGiven, pricesOf, OnlyFall, OnlyFallFor}
+use Rattle.engine.specs.claims.Examples.{TwelveSums, HalfCentSums, Played, FirmsPlayedAtBoth, FullBookPlayedAtBoth, tell, shortWith, hiddenEvents, hiddenAnswers, shownBeforeEvents, shownBeforeAnswers, HiddenToo, AtItsLimitToo, SlidPricesComputed, CodesInOrder, FillsTold, OtherSteps}
 
 pub twelve-sums : TwelveSums
 unfolding Prices.permitted Restriction.triggers SevenBit.byteCount SevenBit.bytesOf SevenBit.groups Tests.pick
@@ -42,6 +46,44 @@ pub full-book-played : FullBookPlayedAtBoth
 unfolding Tests.pick Tests.every Prices.isStep Prices.legal Prices.isBid Prices.permitted Restriction.restrictionOn Orders.without Orders.insert Matching.reaches Matching.better Matching.betterOf Matching.bestFrom Matching.best Matching.counterparty Matching.execution Matching.afterTrade Matching.trading Matching.sameOwner Matching.meeting Matching.matchingWith Matching.matchingUpTo Matching.matching order-conditions.idsRise order-conditions.stampsDiffer order-conditions.soundOrder Market.restricted Market.permittedNow Working.limitOf Working.followsBid Working.lifeOf Working.workingPrice Working.orderOf Working.remainder Working.afterRemainder Working.work Venue.entering Venue.effectOfEntry Venue.effectOf Sound.sound Refusals.refuseUnless Refusals.firstOf Refusals.refusalOfTerms Refusals.refusalOfCodes Refusals.refusalOfOwner Refusals.refusalOfPlace Refusals.refusalOfEntry Refusals.refusalOfKind Refusals.refusal Run.stepUnless Run.step Run.run
 full-book-played =
     (record { handled = refl; byTerms = refl; withABid = refl; exempt = refl; withoutABid = refl; notRestricted = refl; ofFirms = refl }, (record { handled = refl; byTerms = refl; withABid = refl; exempt = refl; withoutABid = refl; notRestricted = refl; ofFirms = refl }, tt))
+
+-- the law isn't true of an order whose prices rise
+rising-refutes : (These : PricesGiven → Type 0) (xs : List Answered) (g : PricesGiven) → pricesOf xs 1 ≡ g → These g → (OnlyFall g → ⊥) → OnlyFallFor These xs → ⊥
+rising-refutes These xs g e t n h = n (subst OnlyFall e (h 1 (subst These (sym e) t)))
+
+pub slid-prices-computed : SlidPricesComputed
+unfolding Tests.pick Tests.every Prices.isStep Prices.legal Prices.isBid Prices.permitted Restriction.triggers Restriction.phaseAfterTape Restriction.phaseAfterDayEnd Restriction.restrictionOn Orders.find Orders.ifSame Orders.restingShares Orders.without Orders.insert Matching.reaches Matching.better Matching.betterOf Matching.bestFrom Matching.best Matching.counterparty Matching.execution Matching.afterTrade Matching.trading Matching.withdrawing Matching.sameOwner Matching.meeting Matching.matchingWith Matching.matchingUpTo Matching.matching order-conditions.idsRise order-conditions.stampsDiffer order-conditions.soundOrder Market.restricted Market.permittedNow Working.limitOf Working.followsBid Working.lifeOf Working.workingPrice Working.orderOf Working.remainder Working.afterRemainder Working.work Pass.displayedClear Pass.moveDown Pass.slideOnce Pass.slideDown Pass.maySlide Pass.moveOf Pass.afterMove Pass.passOne Pass.passOver Venue.opened Venue.entering Venue.effectOfEntry Venue.effectOfCancel Venue.thePass Venue.restrictionReport Venue.effectOfDayEnd Venue.effectOf Sound.sound Refusals.refuseUnless Refusals.firstOf Refusals.refusalOfTerms Refusals.refusalOfCodes Refusals.refusalOfOwner Refusals.refusalOfPlace Refusals.refusalOfEntry Refusals.rests Refusals.refusalOfKind Refusals.refusal Run.stepUnless Run.step Run.run Account.setAt
+slid-prices-computed =
+    record {
+      stamps = record { theDay = record { answered = refl; prices = refl }; stamps = refl; trades = refl; repricedTakes = record { answered = refl; prices = refl }; takerTold = refl };
+      atBoth = (
+        record {
+          continuous = record { answered = refl; prices = refl };
+          once = record { answered = refl; prices = refl };
+          noMore = record { answered = refl; prices = refl };
+          market = record { answered = refl; prices = refl };
+          ofFirm = record { answered = refl; prices = refl };
+          hiddenRises = record { answered = refl; prices = refl };
+          notOfHidden = rising-refutes HiddenToo (tell hiddenEvents (hiddenAnswers 100)) (shortWith 0 0 90_500 91_100 (91_300 ∷ [])) refl (refl, omega arith) (λ f. omega (arith, f .falling .0));
+          shownBeforeRises = record { answered = refl; prices = refl };
+          notAtItsLimit = rising-refutes AtItsLimitToo (tell shownBeforeEvents (shownBeforeAnswers 100)) (shortWith 1 0 91_000 91_000 (91_100 ∷ [])) refl (refl, refl, omega arith) (λ f. omega (arith, f .falling .0));
+        },
+        (
+          record {
+            continuous = record { answered = refl; prices = refl };
+            once = record { answered = refl; prices = refl };
+            noMore = record { answered = refl; prices = refl };
+            market = record { answered = refl; prices = refl };
+            ofFirm = record { answered = refl; prices = refl };
+            hiddenRises = record { answered = refl; prices = refl };
+            notOfHidden = rising-refutes HiddenToo (tell hiddenEvents (hiddenAnswers 50)) (shortWith 0 0 90_500 91_050 (91_250 ∷ [])) refl (refl, omega arith) (λ f. omega (arith, f .falling .0));
+            shownBeforeRises = record { answered = refl; prices = refl };
+            notAtItsLimit = rising-refutes AtItsLimitToo (tell shownBeforeEvents (shownBeforeAnswers 50)) (shortWith 1 0 91_000 91_000 (91_050 ∷ [])) refl (refl, refl, omega arith) (λ f. omega (arith, f .falling .0));
+          },
+          tt,
+        ),
+      );
+    }
 
 pub codes-in-order : CodesInOrder
 unfolding Tests.pick Tests.every Prices.isStep Prices.legal Prices.isBid order-conditions.idsRise order-conditions.stampsDiffer Venue.opened Sound.sound Refusals.refuseUnless Refusals.firstOf Refusals.refusalOfTerms Refusals.refusalOfCodes Refusals.refusalOfPlace Refusals.refusalOfEntry Refusals.refusalOfKind Refusals.refusal Run.stepUnless Run.step Run.run
