@@ -1,4 +1,4 @@
-// The venue of document 01, with document 02 up to No. 8: events, reports, refusals and the law of demand 3. The fourth layer.
+// The venue of document 01, with document 02 up to No. 9: events, reports, refusals and the law of demand 3. The fourth layer.
 pub mod apply;
 pub mod copy;
 mod enter;
