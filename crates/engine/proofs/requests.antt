@@ -1,6 +1,6 @@
 -- What is claimed of document 02's requests.
 pub mod PassLaws
-pub mod ReadingLaws
+pub mod AccountLaws
 pub mod MarketOrderLaws
 pub mod HalfCentLaws
 pub mod WordStepLaws

@@ -22,7 +22,7 @@ use Rattle.engine.specs.rules.Run.{Answered}
 use Rattle.engine.specs.rules.Fill
 use Rattle.engine.specs.claims.Account
 use Rattle.engine.specs.claims.SlidPrices.{PricesGiven, pricesOf, OnlyFall, OnlyFallFor}
-use Rattle.engine.specs.claims.Examples.{TwelveSums, HalfCentSums, Played, FirmsPlayedAtBoth, FullBookPlayedAtBoth, tell, shortWith, hiddenEvents, hiddenAnswers, shownBeforeEvents, shownBeforeAnswers, HiddenToo, AtItsLimitToo, SlidPricesComputed, CodesInOrder, FillsTold, OtherSteps}
+use Rattle.engine.specs.claims.Examples.{TwelveSums, HalfCentSums, Played, FirmsPlayedAtBoth, FullBookPlayedAtBoth, shortWith, hiddenShort, displayedBefore, HiddenToo, AtItsLimitToo, SlidPricesComputed, CodesInOrder, FillsTold, OtherSteps}
 
 pub twelve-sums : TwelveSums
 unfolding Prices.permitted Restriction.triggers SevenBit.byteCount SevenBit.bytesOf SevenBit.groups Tests.pick
@@ -55,30 +55,32 @@ pub slid-prices-computed : SlidPricesComputed
 unfolding Tests.pick Tests.every Prices.isStep Prices.legal Prices.isBid Prices.permitted Restriction.triggers Restriction.phaseAfterTape Restriction.phaseAfterDayEnd Restriction.restrictionOn Orders.find Orders.ifSame Orders.restingShares Orders.without Orders.insert Matching.reaches Matching.better Matching.betterOf Matching.bestFrom Matching.best Matching.counterparty Matching.execution Matching.afterTrade Matching.trading Matching.withdrawing Matching.sameOwner Matching.meeting Matching.matchingWith Matching.matchingUpTo Matching.matching order-conditions.idsRise order-conditions.stampsDiffer order-conditions.soundOrder Market.restricted Market.permittedNow Working.limitOf Working.followsBid Working.lifeOf Working.workingPrice Working.orderOf Working.remainder Working.afterRemainder Working.work Pass.displayedClear Pass.moveDown Pass.slideOnce Pass.slideDown Pass.maySlide Pass.moveOf Pass.afterMove Pass.passOne Pass.passOver Venue.opened Venue.entering Venue.effectOfEntry Venue.effectOfCancel Venue.thePass Venue.restrictionReport Venue.effectOfDayEnd Venue.effectOf Sound.sound Refusals.refuseUnless Refusals.firstOf Refusals.refusalOfTerms Refusals.refusalOfCodes Refusals.refusalOfOwner Refusals.refusalOfPlace Refusals.refusalOfEntry Refusals.rests Refusals.refusalOfKind Refusals.refusal Run.stepUnless Run.step Run.run Account.setAt
 slid-prices-computed =
     record {
-      stamps = record { theDay = record { answered = refl; prices = refl }; stamps = refl; trades = refl; repricedTakes = record { answered = refl; prices = refl }; takerTold = refl };
+      stamps = record { dayPrices = refl; dayStamps = refl; dayTrades = refl; overDays = record { answered = refl; prices = refl }; stampsGoOn = refl; repricedTakes = refl };
       atBoth = (
         record {
           continuous = record { answered = refl; prices = refl };
           once = record { answered = refl; prices = refl };
           noMore = record { answered = refl; prices = refl };
+          optOut = record { answered = refl; prices = refl };
           market = record { answered = refl; prices = refl };
           ofFirm = record { answered = refl; prices = refl };
           hiddenRises = record { answered = refl; prices = refl };
-          notOfHidden = rising-refutes HiddenToo (tell hiddenEvents (hiddenAnswers 100)) (shortWith 0 0 90_500 91_100 (91_300 ∷ [])) refl (refl, omega arith) (λ f. omega (arith, f .falling .0));
-          shownBeforeRises = record { answered = refl; prices = refl };
-          notAtItsLimit = rising-refutes AtItsLimitToo (tell shownBeforeEvents (shownBeforeAnswers 100)) (shortWith 1 0 91_000 91_000 (91_100 ∷ [])) refl (refl, refl, omega arith) (λ f. omega (arith, f .falling .0));
+          notOfHidden = rising-refutes HiddenToo (hiddenShort 100) (shortWith 0 0 90_500 91_100 (91_300 ∷ [])) refl (refl, omega arith) (λ f. omega (arith, f .falling .0));
+          displayedBeforeRises = record { answered = refl; prices = refl };
+          notAtItsLimit = rising-refutes AtItsLimitToo (displayedBefore 100) (shortWith 1 0 91_000 91_000 (91_100 ∷ [])) refl (refl, refl, omega arith) (λ f. omega (arith, f .falling .0));
         },
         (
           record {
             continuous = record { answered = refl; prices = refl };
             once = record { answered = refl; prices = refl };
             noMore = record { answered = refl; prices = refl };
+            optOut = record { answered = refl; prices = refl };
             market = record { answered = refl; prices = refl };
             ofFirm = record { answered = refl; prices = refl };
             hiddenRises = record { answered = refl; prices = refl };
-            notOfHidden = rising-refutes HiddenToo (tell hiddenEvents (hiddenAnswers 50)) (shortWith 0 0 90_500 91_050 (91_250 ∷ [])) refl (refl, omega arith) (λ f. omega (arith, f .falling .0));
-            shownBeforeRises = record { answered = refl; prices = refl };
-            notAtItsLimit = rising-refutes AtItsLimitToo (tell shownBeforeEvents (shownBeforeAnswers 50)) (shortWith 1 0 91_000 91_000 (91_050 ∷ [])) refl (refl, refl, omega arith) (λ f. omega (arith, f .falling .0));
+            notOfHidden = rising-refutes HiddenToo (hiddenShort 50) (shortWith 0 0 90_500 91_050 (91_250 ∷ [])) refl (refl, omega arith) (λ f. omega (arith, f .falling .0));
+            displayedBeforeRises = record { answered = refl; prices = refl };
+            notAtItsLimit = rising-refutes AtItsLimitToo (displayedBefore 50) (shortWith 1 0 91_000 91_000 (91_050 ∷ [])) refl (refl, refl, omega arith) (λ f. omega (arith, f .falling .0));
           },
           tt,
         ),

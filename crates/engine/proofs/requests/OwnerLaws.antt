@@ -57,7 +57,7 @@ use Rattle.engine.proofs.demand3.WorkingKeeps.{work-all}
 use Rattle.engine.proofs.demand3.SoundLaws.{SoundBook, book-distinct, book-others, passOne-sound, SoundVenue, sound-venue, market-permits}
 use Rattle.engine.proofs.demand3.CallLaws.{accepted-call, Readable, step-readable, bytes-read, callOf, fresh-run}
 use Rattle.engine.proofs.requests.PassLaws.{afterMove-all, thePass-all}
-use Rattle.engine.proofs.requests.ReadingLaws.{Kept, opened-reads}
+use Rattle.engine.proofs.requests.AccountLaws.{Kept, opened-reads}
 use Rattle.engine.proofs.requests.WordStepLaws.{in-words, call-does}
 
 -- No firm trades with itself
@@ -142,12 +142,12 @@ record Agrees (os : List Order) (c : Owners) : Type 0 where
   known : All (Knows c) os
   apart : FirmsApart c
 
--- both as claims of the last stamp too, which they don't need
-abbrev AgreesAt : ℕ → List Order → Owners → Type 0
-AgreesAt s os c = Agrees os c
+-- both as claims of the last id and the last stamp too, which they don't need
+abbrev AgreesAt : ℕ → ℕ → List Order → Owners → Type 0
+AgreesAt n s os c = Agrees os c
 
-abbrev WorksAt : ℕ → Order → List Order → Owners → Type 0
-WorksAt s w os c = Works w os c
+abbrev WorksAt : ℕ → ℕ → Order → List Order → Owners → Type 0
+WorksAt n s w os c = Works w os c
 
 -- the beginning of an event with a column f of owners
 abbrev begun : (ℕ → ℕ) → Owners → Owners
@@ -185,14 +185,14 @@ owners-kept : Kept readingOwners AgreesAt WorksAt
 unfolding orderOf
 owners-kept =
     record {
-      begins = λ s os c h. begun-agrees h;
+      begins = λ n s os c h. begun-agrees h;
       enters = enters-works;
       reprices = λ m o os s p used c e i b h. repriced-works o os s p used c i (book-distinct b) h;
       meets = λ w o os c b r i. meeting-works w o os c r i;
-      gone = λ s w os c i. record { known = i .others; apart = i .apart };
-      rests = λ s w os c i. record { known = all-taken (Knows c) (insert-taken w os) (i .own) (i .others); apart = i .apart };
-      leaves = λ s i os c h. record { known = without-all (Knows c) i os (h .known); apart = h .apart };
-      empties = λ s os c h. record { known = tt; apart = h .apart };
+      gone = λ n s w os c i. record { known = i .others; apart = i .apart };
+      rests = λ n s w os c i. record { known = all-taken (Knows c) (insert-taken w os) (i .own) (i .others); apart = i .apart };
+      leaves = λ n s i os c h. record { known = without-all (Knows c) i os (h .known); apart = h .apart };
+      empties = λ n s os c h. record { known = tt; apart = h .apart };
       cancelledTells = λ c i q cause l. pick-no (eqb cause 5) _ _ (ne→T cause 5 (λ e. omega (arith, l)));
       startsTells = λ c. refl;
       endedTells = λ c p. refl;

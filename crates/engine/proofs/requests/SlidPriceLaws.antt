@@ -4,7 +4,7 @@ use native.Mathlib.Omega.{arith}
 use native.Mathlib.Decide.{ℕ-discrete}
 use mathlib.Core.Path.{_≡_, refl, ap, sym, _∙_, subst}
 use mathlib.Core.Bool.{Bool, not}
-use mathlib.Core.List.{List, [], map, List·Memᴰ}
+use mathlib.Core.List.{List, [], _++_, map, foldl-append, List·Memᴰ}
 use mathlib.Core.Logic.{inl, inr}
 use mathlib.Core.Option.{some}
 use lib.Dec.{T, leb, ltb, eqb, leb→le, le→leb, eqb→eq, T-not}
@@ -27,38 +27,42 @@ use Rattle.engine.specs.rules.Reports.{accepted, repriced}
 use Rattle.engine.specs.rules.Working.{limitOf, workingPrice, orderOf, happened}
 use Rattle.engine.specs.rules.Pass.{displayedClear, moveDown, slideOnce, slideDown, moveOf, atNewPrice}
 use Rattle.engine.specs.rules.Venue.{Venue, opened}
-use Rattle.engine.specs.rules.Run.{Call, Run, run}
+use Rattle.engine.specs.rules.Run.{Call, Answered, Run, run}
 use Rattle.engine.specs.rules.Layout.{venueOf}
 use Rattle.engine.specs.steps.Steps.{moveInPass}
 use Rattle.engine.specs.claims.Account.{setAt}
 use Rattle.engine.specs.claims.Calls.{AppliedCall, Chain}
-use Rattle.engine.specs.claims.Reading.{Entered}
-use Rattle.engine.specs.claims.SlidPrices.{PricesGiven, limitNamed, noPrices, pricesNamed, acceptedAt, repricedTo, Prices, startPrices, readPrice, readingPrices, pricesOf, Stamps, noStamps, giveStamp, tradeIn, readStamp, readingStamps, stampsOf, lastOf, Rising, SlidAtEntry, OnlyFall, SlidPricesFall, PricesOnlyFall, WorkingIsLater, StampShown, Shown, WorkingOrdersAreLater, PricesAreShown, SlidPricesFallInCalls, PricesOnlyFallInCalls}
+use Rattle.engine.specs.claims.Reading.{Entered, readFrom}
+use Rattle.engine.specs.claims.SlidPrices.{PricesGiven, limitOfShort, noPrices, beforeReports, acceptedAt, repricedTo, Prices, startPrices, readPrice, readingPrices, pricesOf, Stamps, noStamps, noneWorks, giveStamp, tradeIn, readStamp, readingStamps, stampsOf, lastOf, Rising, SlidAtEntry, lastPrice, OnlyFall, NeverRises, WorkingIsLater, PricesFall, PricesOnlyFall, PricesFallInCalls, PricesOnlyFallInCalls, AdjustedIsAboveLimit}
 use Rattle.engine.proofs.refinement.RefusalLaws.{EntryAllowed}
 use Rattle.engine.proofs.refinement.OpeningLaws.{opening-known, opened-book, opened-venue}
 use Rattle.engine.proofs.demand3.MarketLaws.{permittedNow-above}
 use Rattle.engine.proofs.demand3.TallyLaws.{setAt-same, setAt-other}
-use Rattle.engine.proofs.demand3.SoundLaws.{SoundBook, SoundWork, book-distinct, book-others, book-without, SoundVenue}
+use Rattle.engine.proofs.demand3.SoundLaws.{SoundBook, SoundWork, book-distinct, book-others, book-order, book-without, SoundVenue}
 use Rattle.engine.proofs.demand3.CallLaws.{callOf, fresh-run}
-use Rattle.engine.proofs.requests.ReadingLaws.{Kept, opened-reads}
+use Rattle.engine.proofs.requests.AccountLaws.{Kept, run-reads, opened-reads, run-front}
 
 -- Stamps
+
+-- the column says what the record of an order says
+abbrev HasStamp : Stamps → Order → Type 0
+HasStamp c o = o.stamp ≡ c .stamp (o .id)
 
 -- what is given so far, s last
 abbrev RisesTo : ℕ → Stamps → Type 0
 RisesTo s c = record { last : lastOf 0 (c .given) ≡ s; rising : Rising 0 (c .given); later : All WorkingIsLater (c .trades) }
 
 -- wherever no order works
-record StampsAgree (s : ℕ) (os : List Order) (c : Stamps) : Type 0 where
-  known : All (StampShown c) os
+record StampsAgree (n s : ℕ) (os : List Order) (c : Stamps) : Type 0 where
+  known : All (HasStamp c) os
   rises : RisesTo s c
 
 -- while w works: it has the last stamp, and all others have older ones
 abbrev Older : ℕ → Stamps → Order → Type 0
-Older s c o = StampShown c o × (o.stamp < s)
+Older s c o = HasStamp c o × (o.stamp < s)
 
-record StampsWork (s : ℕ) (w : Order) (os : List Order) (c : Stamps) : Type 0 where
-  own : StampShown c w
+record StampsWork (n s : ℕ) (w : Order) (os : List Order) (c : Stamps) : Type 0 where
+  own : HasStamp c w
   newest : w.stamp ≡ s
   others : All (Older s c) os
   working : c.working ≡ w.id
@@ -68,9 +72,9 @@ given-rises : (k s : ℕ) (c : Stamps) → RisesTo s c → RisesTo (s + 1) (give
 given-rises k s c h = record { last = refl; rising = (omega (arith, h .last), h .rising); later = h .later }
 
 -- an order w of any kind with the stamp s + 1, in a book without its id
-module _ {g n s : ℕ} (w : Order) (os : List Order) (c : Stamps) (e : w.stamp ≡ s + 1) (b : SoundBook g n s os) (new : All (Other (w .id)) os) (h : StampsAgree s os c) where
-  stamp-works : StampsWork (s + 1) w os (giveStamp (w .id) (s + 1) c)
-  stamp-works =
+module _ {g n s : ℕ} (w : Order) (os : List Order) (c : Stamps) (e : w.stamp ≡ s + 1) (b : SoundBook g n s os) (new : All (Other (w .id)) os) (l : ℕ) (h : StampsAgree l s os c) where
+  stamp-works : (k : ℕ) → StampsWork k (s + 1) w os (giveStamp (w .id) (s + 1) c)
+  stamp-works k =
       record {
         own = e ∙ sym (setAt-same (w .id) (s + 1) (c .stamp));
         newest = e;
@@ -82,7 +86,7 @@ module _ {g n s : ℕ} (w : Order) (os : List Order) (c : Stamps) (e : w.stamp �
       older : All (Older (s + 1) c) os
       older = all-both (λ x k z. (k, omega (arith, z .works .last))) os (h .known) (b .orders)
 
-module _ {g n s : ℕ} (w o : Order) (os : List Order) (c : Stamps) (b : SoundWork g n s w os) (r : Reached w os (some o)) (i : StampsWork s w os c) where
+module _ {g n s : ℕ} (w o : Order) (os : List Order) (c : Stamps) (b : SoundWork g n s w os) (r : Reached w os (some o)) (i : StampsWork n s w os c) where
   met : Older s c o
   met = taken-all (Older s c) (mem-taken (r .0) (book-distinct (b .book))) (i .others) .0
 
@@ -92,7 +96,7 @@ module _ {g n s : ℕ} (w o : Order) (os : List Order) (c : Stamps) (b : SoundWo
       let l : c .stamp (o .id) < c .stamp (w .id) = omega (arith, met .0, met .1, i .own, i .newest) in
       execution-by (λ (x : Execution). WorkingIsLater (tradeIn c x)) w o q (λ b. inl (sym (i .working), l)) (λ b. inr (sym (i .working), l))
 
-  trading-works : let x : Meeting = trading w o os in StampsWork s (x .left) (x .orders) (readStamp c (happened (x .happening)))
+  trading-works : let x : Meeting = trading w o os in StampsWork n s (x .left) (x .orders) (readStamp c (happened (x .happening)))
   trading-works =
       let q : ℕ = min (w .shares) (o .shares) in
       rw (trading-known w o os) record {
@@ -103,7 +107,7 @@ module _ {g n s : ℕ} (w o : Order) (os : List Order) (c : Stamps) (b : SoundWo
         rises = record { last = i .rises .last; rising = i .rises .rising; later = (trade-later q, i .rises .later) };
       }
 
-  withdrawing-works : let x : Meeting = withdrawing w o os in StampsWork s (x .left) (x .orders) (readStamp c (happened (x .happening)))
+  withdrawing-works : let x : Meeting = withdrawing w o os in StampsWork n s (x .left) (x .orders) (readStamp c (happened (x .happening)))
   withdrawing-works =
       rw (withdrawing-known w o os) record {
         own = i .own;
@@ -113,28 +117,28 @@ module _ {g n s : ℕ} (w o : Order) (os : List Order) (c : Stamps) (b : SoundWo
         rises = i .rises;
       }
 
-  meeting-works : let x : Meeting = meeting w o os in StampsWork s (x .left) (x .orders) (readStamp c (happened (x .happening)))
+  meeting-works : let x : Meeting = meeting w o os in StampsWork n s (x .left) (x .orders) (readStamp c (happened (x .happening)))
   meeting-works =
-      meeting-by (λ (x : Meeting). StampsWork s (x .left) (x .orders) (readStamp c (happened (x .happening)))) w o os withdrawing-works trading-works
+      meeting-by (λ (x : Meeting). StampsWork n s (x .left) (x .orders) (readStamp c (happened (x .happening)))) w o os withdrawing-works trading-works
 
 stamps-kept : Kept readingStamps StampsAgree StampsWork
 unfolding orderOf
 stamps-kept =
     record {
-      begins = λ s os c h. h;
-      enters = λ v x c a g h. stamp-works _ (v .orders) c refl (g .book) (book-others (g .book) (a .place .newId)) h;
-      reprices = λ m o os s p used c e i b h. stamp-works (atNewPrice p (s + 1) used o) (without (o .id) os) c refl (book-without b (o .id)) (without-other (o .id) os) (record { known = without-all (StampShown c) (o .id) os (h .known); rises = h .rises });
+      begins = λ n s os c h. record { known = h .known; rises = h .rises };
+      enters = λ v x c a g h. stamp-works _ (v .orders) (noneWorks c) refl (g .book) (book-others (g .book) (a .place .newId)) (v .lastId) (record { known = h .known; rises = h .rises }) (x.entry.id);
+      reprices = λ {g} {n} m o os s p used c e i b h. stamp-works (atNewPrice p (s + 1) used o) (without (o .id) os) c refl (book-without b (o .id)) (without-other (o .id) os) n (record { known = without-all (HasStamp c) (o .id) os (h .known); rises = h .rises }) n;
       meets = λ w o os c b r i. meeting-works w o os c b r i;
-      gone = λ s w os c i. record { known = all-map (λ x k. k .0) os (i .others); rises = i .rises };
-      rests = λ s w os c i. record { known = all-taken (StampShown c) (insert-taken w os) (i .own) (all-map (λ x k. k .0) os (i .others)); rises = i .rises };
-      leaves = λ s i os c h. record { known = without-all (StampShown c) i os (h .known); rises = h .rises };
-      empties = λ s os c h. record { known = tt; rises = h .rises };
+      gone = λ n s w os c i. record { known = all-map (λ x k. k .0) os (i .others); rises = i .rises };
+      rests = λ n s w os c i. record { known = all-taken (HasStamp c) (insert-taken w os) (i .own) (all-map (λ x k. k .0) os (i .others)); rises = i .rises };
+      leaves = λ n s i os c h. record { known = without-all (HasStamp c) i os (h .known); rises = h .rises };
+      empties = λ n s os c h. record { known = tt; rises = h .rises };
       cancelledTells = λ c i q cause l. refl;
       startsTells = λ c. refl;
       endedTells = λ c p. refl;
     }
 
-opened-stamps : (s close : ℕ) (cs : List Call) → let r : Run = run (opened s close) cs in StampsAgree (r .venue .lastStamp) (r .venue .orders) (stampsOf (r .answered))
+opened-stamps : (s close : ℕ) (cs : List Call) → let r : Run = run (opened s close) cs in StampsAgree (r .venue .lastId) (r .venue .lastStamp) (r .venue .orders) (stampsOf (r .answered))
 opened-stamps s close cs =
     opened-reads readingStamps StampsAgree StampsWork stamps-kept s close noStamps (record { known = tt; rises = record { last = refl; rising = tt; later = tt } }) cs
 
@@ -180,7 +184,7 @@ move-goes m o e h =
 -- an order and what is said of it; where it was adjusted at its entry and is displayed, it is clear and not under its limit, and with slide once and not used it has
 -- no re-pricing
 abbrev Slid : PricesGiven → Order → Type 0
-Slid g o = record { clear : T (o .clear); least : o.limit ≤ o.price; unused : o.slide ≡ 1 → T (not (o .used)) → g.repriced ≡ [] }
+Slid g o = record { clear : T (o .clear); least : o.limit ≤ o.price; unused : o.slide ≡ 1 → T (not (o .used)) → g.repricings ≡ [] }
 
 abbrev SaidOf : PricesGiven → Order → Type 0
 SaidOf g o =
@@ -189,50 +193,76 @@ SaidOf g o =
       show : g.show ≡ o.show;
       slide : g.slide ≡ o.slide;
       limit : o.mark ≡ 2 → g.limit ≡ o.limit;
-      price : o.price ≡ lastOf (g .accepted) (g .repriced);
+      price : o.price ≡ lastPrice g;
       slid : SlidAtEntry g → Slid g o;
     }
 
 abbrev Knows : Prices → Order → Type 0
 Knows c o = SaidOf (c (o .id)) o
 
+-- what is known of each id, now and since a moment at which g was said of it
 abbrev FallsIfSlid : PricesGiven → Type 0
 FallsIfSlid g = SlidAtEntry g → OnlyFall g
 
-record PricesAgree (s : ℕ) (os : List Order) (c : Prices) : Type 0 where
-  known : All (Knows c) os
-  falls : (k : ℕ) → FallsIfSlid (c k)
+abbrev NotAbove : PricesGiven → PricesGiven → Type 0
+NotAbove g now = SlidAtEntry g → SlidAtEntry now × (lastPrice now ≤ lastPrice g)
 
-record PricesWork (s : ℕ) (w : Order) (os : List Order) (c : Prices) : Type 0 where
-  own : Knows c w
-  others : All (Knows c) os
-  falls : (k : ℕ) → FallsIfSlid (c k)
+-- n is the last id; an id above it has no prices
+abbrev NoneAbove : ℕ → Prices → Type 0
+NoneAbove n c = (k : ℕ) → n < k → c k ≡ noPrices
 
--- one place of the column changes, in a book without that id
-module _ (k : ℕ) (g : PricesGiven) (c : Prices) where
-  set-others : (os : List Order) → All (Other k) os → All (Knows c) os → All (Knows (setAt k g c)) os
-  set-others = all-both (λ x z h. subst (λ (y : PricesGiven). SaidOf y x) (sym (setAt-other k g c (x .id) z)) h)
+-- at the moment the column was then
+module _ (then : Prices) where
+  record ColumnAgrees (n : ℕ) (c : Prices) : Type 0 where
+    falls : (k : ℕ) → FallsIfSlid (c k)
+    lower : (k : ℕ) → NotAbove (then k) (c k)
+    none : NoneAbove n c
+    noneThen : NoneAbove n then
 
-  set-falls : FallsIfSlid g → ((j : ℕ) → FallsIfSlid (c j)) → (j : ℕ) → FallsIfSlid (setAt k g c j)
-  set-falls f h j = go (ℕ-discrete j k)
-    where
-      go : Dec (j ≡ k) → FallsIfSlid (setAt k g c j)
-      go (yes z) = subst (λ (i : ℕ). FallsIfSlid (setAt k g c i)) (sym z) (subst FallsIfSlid (sym (setAt-same k g c)) f)
-      go (no z) = subst FallsIfSlid (sym (setAt-other k g c j z)) (h j)
+  record PricesAgree (n s : ℕ) (os : List Order) (c : Prices) : Type 0 where
+    known : All (Knows c) os
+    column : ColumnAgrees n c
 
-price-works : (s t : ℕ) (w : Order) (os : List Order) (g : PricesGiven) (c : Prices) → All (Other (w .id)) os → SaidOf g w → FallsIfSlid g → PricesAgree s os c → PricesWork t w os (setAt (w .id) g c)
-price-works s t w os g c new k f h =
-    record {
-      own = subst (λ (y : PricesGiven). SaidOf y w) (sym (setAt-same (w .id) g c)) k;
-      others = set-others (w .id) g c os new (h .known);
-      falls = set-falls (w .id) g c f (h .falls);
-    }
+  record PricesWork (n s : ℕ) (w : Order) (os : List Order) (c : Prices) : Type 0 where
+    own : Knows c w
+    others : All (Knows c) os
+    column : ColumnAgrees n c
+
+  -- one place of the column changes, which is in a book without that id
+  module _ (k : ℕ) (g : PricesGiven) (c : Prices) where
+    set-others : (os : List Order) → All (Other k) os → All (Knows c) os → All (Knows (setAt k g c)) os
+    set-others = all-both (λ x z h. subst (λ (y : PricesGiven). SaidOf y x) (sym (setAt-other k g c (x .id) z)) h)
+
+    -- what holds of g and of every other place
+    set-each : (P : ℕ → PricesGiven → Type 0) → P k g → ((j : ℕ) → P j (c j)) → (j : ℕ) → P j (setAt k g c j)
+    set-each P f h j = go (ℕ-discrete j k)
+      where
+        go : Dec (j ≡ k) → P j (setAt k g c j)
+        go (yes z) = subst (λ (i : ℕ). P i (setAt k g c i)) (sym z) (subst (P k) (sym (setAt-same k g c)) f)
+        go (no z) = subst (P j) (sym (setAt-other k g c j z)) (h j)
+
+    set-column : (n m : ℕ) → n ≤ m → k ≤ m → FallsIfSlid g → NotAbove (then k) g → ColumnAgrees n c → ColumnAgrees m (setAt k g c)
+    set-column n m l i f d h =
+        record {
+          falls = set-each (λ j y. FallsIfSlid y) f (h .falls);
+          lower = set-each (λ j y. NotAbove (then j) y) d (h .lower);
+          none = set-each (λ j y. m < j → y ≡ noPrices) (λ z. absurd (omega (arith, z, i))) (λ j z. h .none j (omega (arith, z, l)));
+          noneThen = λ j z. h .noneThen j (omega (arith, z, l));
+        }
+
+  price-works : (n m s t : ℕ) (w : Order) (os : List Order) (g : PricesGiven) (c : Prices) → All (Other (w .id)) os → SaidOf g w → All (Knows c) os → ColumnAgrees m (setAt (w .id) g c) → PricesWork m t w os (setAt (w .id) g c)
+  price-works n m s t w os g c new k h d =
+      record { own = subst (λ (y : PricesGiven). SaidOf y w) (sym (setAt-same (w .id) g c)) k; others = set-others (w .id) g c os new h; column = d }
 
 -- an entry
 
-short-limit : (e : Entry) → e.mark ≡ 2 → limitNamed e ≡ limitOf (e .mark) (e .price)
+short-limit : (e : Entry) → e.mark ≡ 2 → limitOfShort e ≡ limitOf (e .mark) (e .price)
 unfolding limitOf
 short-limit e z = rw (pick-no (eqb (e .mark) 0) highest 1 (ne→T (e .mark) 0 (λ x. omega (arith, z)))) refl
+
+pub adjusted-is-above-limit : AdjustedIsAboveLimit
+unfolding orderOf
+adjusted-is-above-limit m stamp owner e z = rw (short-limit e z) refl
 
 -- a working price above the limit is above the bid
 working-above : (m : Market) → T (isStep (m .step)) → (mark price : ℕ) → limitOf mark price < workingPrice m mark price → m.bid < workingPrice m mark price
@@ -242,7 +272,7 @@ working-above m is mark price =
 
 module _ (m : Market) (is : T (isStep (m .step))) (s owner : ℕ) (e : Entry) where
   abbrev entryPrices : PricesGiven
-  entryPrices = acceptedAt (workingPrice m (e .mark) (e .price)) (pricesNamed e)
+  entryPrices = acceptedAt (workingPrice m (e .mark) (e .price)) (beforeReports e)
 
   entry-said : SaidOf entryPrices (orderOf m s owner e)
   unfolding orderOf
@@ -259,19 +289,28 @@ module _ (m : Market) (is : T (isStep (m .step))) (s owner : ℕ) (e : Entry) wh
   entry-falls : FallsIfSlid entryPrices
   entry-falls f = record { falling = tt; least = tt; once = λ z. omega arith; noMore = λ z. refl; optOut = λ z. refl }
 
-prices-enter : (v : Venue) (x : Entered) (c : Prices) → EntryAllowed v (x .entry) → SoundVenue v → PricesAgree (v .lastStamp) (v .orders) c → let o : Order = orderOf (v .market) (v .lastStamp + 1) (x .owner) (x .entry) in PricesWork (v .lastStamp + 1) o (v .orders) (readPrice (startPrices (some x) c) (accepted (o .id) (o .stamp) (o .price)))
-unfolding orderOf
-prices-enter v x c a g h =
-    let e : Entry = x.entry in
-    let d : Prices = startPrices (some x) c in
-    let new : All (Other (e .id)) (v .orders) = book-others (g .book) (a .place .newId) in
-    let same : pricesNamed e ≡ d (e .id) = sym (setAt-same (e .id) (pricesNamed e) c) in
-    let p : ℕ = workingPrice (v .market) (e .mark) (e .price) in
-    let is = g .market .step in
-    price-works (v .lastStamp) (v .lastStamp + 1) _ (v .orders) (acceptedAt p (d (e .id))) d new
-    (subst (λ (y : PricesGiven). SaidOf (acceptedAt p y) (orderOf (v .market) (v .lastStamp + 1) (x .owner) e)) same (entry-said (v .market) is (v .lastStamp + 1) (x .owner) e))
-    (subst (λ (y : PricesGiven). FallsIfSlid (acceptedAt p y)) same (entry-falls (v .market) is (v .lastStamp + 1) (x .owner) e))
-    (record { known = set-others (e .id) (pricesNamed e) c (v .orders) new (h .known); falls = set-falls (e .id) (pricesNamed e) c (λ f. absurd (omega (arith, f .2))) (h .falls) })
+module _ (then : Prices) where
+  -- nothing was said of a new id
+  new-lower : {n : ℕ} {c : Prices} (i : ℕ) (g : PricesGiven) → n < i → ColumnAgrees then n c → NotAbove (then i) g
+  new-lower i g l h f = absurd (omega (arith, ap (λ (y : PricesGiven). y .acceptedPrice) (h .noneThen i l), f .2))
+
+  prices-enter : (v : Venue) (x : Entered) (c : Prices) → EntryAllowed v (x .entry) → SoundVenue v → PricesAgree then (v .lastId) (v .lastStamp) (v .orders) c → let o : Order = orderOf (v .market) (v .lastStamp + 1) (x .owner) (x .entry) in PricesWork then (x.entry.id) (v .lastStamp + 1) o (v .orders) (readPrice (startPrices (some x) c) (accepted (o .id) (o .stamp) (o .price)))
+  unfolding orderOf
+  prices-enter v x c a g h =
+      let e : Entry = x.entry in
+      let i : ℕ = e.id in
+      let d : Prices = startPrices (some x) c in
+      let l : v.lastId < i = a .place .newId in
+      let new : All (Other i) (v .orders) = book-others (g .book) l in
+      let same : beforeReports e ≡ d i = sym (setAt-same i (beforeReports e) c) in
+      let p : ℕ = workingPrice (v .market) (e .mark) (e .price) in
+      let m : Market = v.market in
+      let t : ℕ = v.lastStamp + 1 in
+      let begun : ColumnAgrees then i d = set-column then i (beforeReports e) c (v .lastId) i (omega (arith, l)) (omega arith) (λ f. absurd (omega (arith, f .2))) (new-lower i (beforeReports e) l (h .column)) (h .column) in
+      price-works then (v .lastId) i (v .lastStamp) t _ (v .orders) (acceptedAt p (d i)) d new
+      (subst (λ (y : PricesGiven). SaidOf (acceptedAt p y) (orderOf m t (x .owner) e)) same (entry-said m (g .market .step) t (x .owner) e))
+      (set-others then i (beforeReports e) c (v .orders) new (h .known))
+      (set-column then i (acceptedAt p (d i)) d i i (omega arith) (omega arith) (subst (λ (y : PricesGiven). FallsIfSlid (acceptedAt p y)) same (entry-falls m (g .market .step) t (x .owner) e)) (new-lower i (acceptedAt p (d i)) l (h .column)) begun)
 
 -- a re-pricing
 
@@ -299,14 +338,18 @@ module _ (o : Order) (p s : ℕ) (used : Bool) (g : PricesGiven) (k : SaidOf g o
         optOut = λ e. absurd (omega (arith, slides, e));
       }
 
-prices-reprice : {g n : ℕ} (m : Market) (o : Order) (os : List Order) (s p : ℕ) (used : Bool) (c : Prices) → moveInPass m o ≡ Reprice p used → List·Memᴰ o os → SoundBook g n s os → PricesAgree s os c → PricesWork (s + 1) (atNewPrice p (s + 1) used o) (without (o .id) os) (readPrice c (repriced (o .id) p (s + 1)))
-prices-reprice m o os s p used c e i b h =
+  repriced-lower : (before : PricesGiven) → NotAbove before g → NotAbove before (repricedTo p g)
+  repriced-lower before h f = let r = h f in (r .0, omega (arith, y (r .0) .lower, k .price, r .1))
+
+prices-reprice : (then : Prices) {g n : ℕ} (m : Market) (o : Order) (os : List Order) (s p : ℕ) (used : Bool) (c : Prices) → moveInPass m o ≡ Reprice p used → List·Memᴰ o os → SoundBook g n s os → PricesAgree then n s os c → PricesWork then n (s + 1) (atNewPrice p (s + 1) used o) (without (o .id) os) (readPrice c (repriced (o .id) p (s + 1)))
+prices-reprice then {g} {n} m o os s p used c e i b h =
     let k : Knows c o = taken-all (Knows c) (mem-taken i (book-distinct b)) (h .known) .0 in
     let y : SlidAtEntry (c (o .id)) → MovesDown o p used = λ f. subst (Goes o) e (move-goes m o (sym (k .show) ∙ f .1) (k .slid f .clear)) in
-    price-works s (s + 1) (atNewPrice p (s + 1) used o) (without (o .id) os) (repricedTo p (c (o .id))) c (without-other (o .id) os)
+    let given : PricesGiven = repricedTo p (c (o .id)) in
+    price-works then n n s (s + 1) (atNewPrice p (s + 1) used o) (without (o .id) os) given c (without-other (o .id) os)
     (repriced-said o p (s + 1) used (c (o .id)) k y)
-    (repriced-falls o p (s + 1) used (c (o .id)) k y (h .falls (o .id)))
-    (record { known = without-all (Knows c) (o .id) os (h .known); falls = h .falls })
+    (without-all (Knows c) (o .id) os (h .known))
+    (set-column then (o .id) given c n n (omega arith) (book-order b i .works .id) (repriced-falls o p (s + 1) used (c (o .id)) k y (h .column .falls (o .id))) (repriced-lower o p (s + 1) used (c (o .id)) k y (then (o .id)) (h .column .lower (o .id))) (h .column))
 
 -- a meeting tells it nothing
 
@@ -314,64 +357,73 @@ happened-tells : (c : Prices) (x : Happening) → readPrice c (happened x) ≡ c
 happened-tells c (traded x) = refl
 happened-tells c (withdrawn i q) = refl
 
-prices-meet : {g n s : ℕ} (w o : Order) (os : List Order) (c : Prices) → SoundWork g n s w os → Reached w os (some o) → PricesWork s w os c → let x : Meeting = meeting w o os in PricesWork s (x .left) (x .orders) (readPrice c (happened (x .happening)))
-prices-meet w o os c b r i =
+prices-meet : (then : Prices) {g n s : ℕ} (w o : Order) (os : List Order) (c : Prices) → SoundWork g n s w os → Reached w os (some o) → PricesWork then n s w os c → let x : Meeting = meeting w o os in PricesWork then n s (x .left) (x .orders) (readPrice c (happened (x .happening)))
+prices-meet then w o os c b r i =
     let z = meeting-all (Knows c) (λ x q h. h) w o os (r .0) (book-distinct (b .book)) (i .own) (i .others) in
-    rw (happened-tells c (meeting w o os .happening)) (record { own = z .0; others = z .1; falls = i .falls })
+    rw (happened-tells c (meeting w o os .happening)) (record { own = z .0; others = z .1; column = i .column })
 
-prices-kept : Kept readingPrices PricesAgree PricesWork
-prices-kept =
+prices-kept : (then : Prices) → Kept readingPrices (PricesAgree then) (PricesWork then)
+prices-kept then =
     record {
-      begins = λ s os c h. h;
-      enters = prices-enter;
-      reprices = prices-reprice;
-      meets = prices-meet;
-      gone = λ s w os c i. record { known = i .others; falls = i .falls };
-      rests = λ s w os c i. record { known = all-taken (Knows c) (insert-taken w os) (i .own) (i .others); falls = i .falls };
-      leaves = λ s i os c h. record { known = without-all (Knows c) i os (h .known); falls = h .falls };
-      empties = λ s os c h. record { known = tt; falls = h .falls };
+      begins = λ n s os c h. h;
+      enters = prices-enter then;
+      reprices = prices-reprice then;
+      meets = prices-meet then;
+      gone = λ n s w os c i. record { known = i .others; column = i .column };
+      rests = λ n s w os c i. record { known = all-taken (Knows c) (insert-taken w os) (i .own) (i .others); column = i .column };
+      leaves = λ n s i os c h. record { known = without-all (Knows c) i os (h .known); column = h .column };
+      empties = λ n s os c h. record { known = tt; column = h .column };
       cancelledTells = λ c i q cause l. refl;
       startsTells = λ c. refl;
       endedTells = λ c p. refl;
     }
 
-opened-prices : (s close : ℕ) (cs : List Call) → let r : Run = run (opened s close) cs in PricesAgree (r .venue .lastStamp) (r .venue .orders) (pricesOf (r .answered))
-opened-prices s close cs =
-    opened-reads readingPrices PricesAgree PricesWork prices-kept s close (λ k. noPrices) (record { known = tt; falls = λ k f. absurd (omega (arith, f .2)) }) cs
-
 -- Every list
 
-opened-fall : (s close : ℕ) (cs : List Call) → SlidPricesFall (run (opened s close) cs .answered)
-opened-fall s close cs = record { prices = opened-prices s close cs .falls; stamps = opened-stamps s close cs .rises .rising }
+abbrev atOpen : Prices
+atOpen k = noPrices
 
-opened-shown : (s close : ℕ) (cs : List Call) → let r : Run = run (opened s close) cs in Shown (r .answered) (r .venue .orders)
-opened-shown s close cs =
+opened-prices : (s close : ℕ) (cs : List Call) → let r : Run = run (opened s close) cs in PricesAgree atOpen (r .venue .lastId) (r .venue .lastStamp) (r .venue .orders) (pricesOf (r .answered))
+opened-prices s close cs =
+    opened-reads readingPrices (PricesAgree atOpen) (PricesWork atOpen) (prices-kept atOpen) s close atOpen (record { known = tt; column = record { falls = λ k f. absurd (omega (arith, f .2)); lower = λ k f. absurd (omega (arith, f .2)); none = λ k l. refl; noneThen = λ k l. refl } }) cs
+
+-- after further calls no price is above what it was
+further-lower : (s close : ℕ) (cs ds : List Call) → let r : Run = run (opened s close) cs in (k : ℕ) → NotAbove (pricesOf (r .answered) k) (readFrom readingPrices (pricesOf (r .answered)) (run (r .venue) ds .answered) k)
+further-lower s close cs ds =
     let r : Run = run (opened s close) cs in
-    record { prices = all-map (λ o k. k .price) (r .venue .orders) (opened-prices s close cs .known); stamps = opened-stamps s close cs .known }
+    let c : Prices = pricesOf (r .answered) in
+    let h = opened-prices s close cs in
+    run-reads readingPrices (PricesAgree c) (PricesWork c) (prices-kept c) ds (r .venue) c (record { known = h .known; column = record { falls = h .column .falls; lower = λ k f. (f, omega arith); none = h .column .none; noneThen = h .column .none } }) .column .lower
+
+never-rises : (s close : ℕ) (cs : List Call) → NeverRises (run (opened s close) cs .answered)
+never-rises s close cs ys zs e k f =
+    let g = run-front cs (opened s close) ys zs e in
+    let rest : List Answered = run (run (opened s close) (g .first) .venue) (g .then) .answered in
+    let h = subst (λ (l : List Answered). NotAbove (pricesOf l k) (readFrom readingPrices (pricesOf l) rest k)) (sym (g .front)) (further-lower s close (g .first) (g .then) k) in
+    rw (e, foldl-append) (subst (λ (l : List Answered). NotAbove (pricesOf ys k) (readFrom readingPrices (pricesOf ys) l k)) (sym (g .behind)) h f .1)
+
+opened-fall : (s close : ℕ) (cs : List Call) → let r : Run = run (opened s close) cs in PricesFall (r .answered) (r .venue .orders)
+opened-fall s close cs =
+    let p = opened-prices s close cs in
+    let t = opened-stamps s close cs in
+    record {
+      prices = p .column .falls;
+      neverRises = never-rises s close cs;
+      stamps = t .rises .rising;
+      later = t .rises .later;
+      recorded = all-both (λ o k h. record { price = k .price; stamp = h; mark = sym (k .mark); show = sym (k .show); slide = sym (k .slide); limit = λ z. sym (k .limit z) }) (run (opened s close) cs .venue .orders) (p .known) (t .known);
+    }
 
 pub prices-only-fall : PricesOnlyFall
 prices-only-fall s close v o cs = rw (opening-known s close v o .fresh) (opened-fall s close cs)
 
-pub working-orders-are-later : WorkingOrdersAreLater
-working-orders-are-later s close v o cs = rw (opening-known s close v o .fresh) (opened-stamps s close cs .rises .later)
-
-pub prices-are-shown : PricesAreShown
-prices-are-shown s close v o cs = rw (opening-known s close v o .fresh) (opened-shown s close cs)
-
 -- of calls, from words that mean a fresh venue
-pub fall-from : (s close : ℕ) → T (isStep s) → T (legal s close) → {w₀ : List ℕ} → T (isBook w₀) → venueOf w₀ ≡ opened s close → (cs : List AppliedCall) (w′ : List ℕ) → Chain w₀ cs w′ → SlidPricesFallInCalls cs w′
+pub fall-from : (s close : ℕ) → T (isStep s) → T (legal s close) → {w₀ : List ℕ} → T (isBook w₀) → venueOf w₀ ≡ opened s close → (cs : List AppliedCall) (w′ : List ℕ) → Chain w₀ cs w′ → PricesFallInCalls cs w′
 unfolding venueOf
 fall-from s close i t u f cs w′ c =
     let r = fresh-run s close i t u f c in
-    let calls : List Call = map callOf cs in
-    let read = run (opened s close) calls .answered in
-    record {
-      read = read;
-      readable = r .readable;
-      fall = opened-fall s close calls;
-      later = opened-stamps s close calls .rises .later;
-      shown = subst (Shown read) (sym (ap (λ (v : Venue). v .orders) (r .venue))) (opened-shown s close calls);
-    }
+    let n : Run = run (opened s close) (map callOf cs) in
+    record { read = n .answered; readable = r .readable; fall = subst (PricesFall (n .answered)) (sym (ap (λ (v : Venue). v .orders) (r .venue))) (opened-fall s close (map callOf cs)) }
 
 pub prices-only-fall-in-calls : PricesOnlyFallInCalls
 prices-only-fall-in-calls s close i t = fall-from s close i t (opened-book s close i t) (opened-venue s close i t)

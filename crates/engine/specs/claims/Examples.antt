@@ -20,7 +20,7 @@ use Rattle.engine.specs.rules.Refusals.{leastBuffer}
 use Rattle.engine.specs.rules.Run.{Call, Answered, step, run}
 use Rattle.engine.specs.rules.Fill.{wouldFill}
 use Rattle.engine.specs.claims.Owners.{Owners, ownersOf}
-use Rattle.engine.specs.claims.SlidPrices.{PricesGiven, pricesOf, stampsOf, OnlyFallFor}
+use Rattle.engine.specs.claims.SlidPrices.{PricesGiven, pricesOf, StampedTrade, stampsOf, OnlyFallFor}
 
 -- "Shown together by one check of the definitions"
 abbrev pub twelveSums : List Bool
@@ -378,89 +378,94 @@ pub record FullBookPlayed (s : ℕ) : Type 0 where
 abbrev pub FullBookPlayedAtBoth : Type 0
 FullBookPlayedAtBoth = All FullBookPlayed (100 ∷ 50 ∷ [])
 
--- slid prices (No. 9): events with their answers
-abbrev pub tell : List Event → List (Outcome (List Report)) → List Answered
-tell [] xs = []
-tell (e ∷ es) [] = []
-tell (e ∷ es) (x ∷ xs) = record { event = e; answer = x } ∷ tell es xs
+-- slid prices (No. 9): an event with its reports, and one with its refusal
+abbrev pub gets : Event → List Report → Answered
+gets e rs = record { event = e; answer = gives rs }
 
--- these are the answers to the events, from a venue opened with the step s and the close 100,000, and this is said by them of the order 1
-pub record Slides (s : ℕ) (es : List Event) (xs : List (Outcome (List Report))) (g : PricesGiven) : Type 0 where
-  pub answered : run (opened s 100_000) (map callOf es) .answered ≡ tell es xs
-  pub prices : pricesOf (tell es xs) 1 ≡ g
+abbrev pub isRefused : Event → ℕ → Answered
+isRefused e n = record { event = e; answer = refuses n }
+
+-- from a venue opened with the step s and the close 100,000 the events get these answers, and this is said by them of the order 1
+pub record Slides (s : ℕ) (xs : List Answered) (g : PricesGiven) : Type 0 where
+  pub answered : run (opened s 100_000) (map (λ (x : Answered). callOf (x .event)) xs) .answered ≡ xs
+  pub prices : pricesOf xs 1 ≡ g
 
 -- a short: its show, slide and limit, the price that it was accepted at, and its re-pricings, the last one first
 abbrev pub shortWith : ℕ → ℕ → ℕ → ℕ → List ℕ → PricesGiven
 shortWith show slide limit first later =
-    record { mark = 2; show = show; slide = slide; limit = limit; accepted = first; repriced = later }
+    record { mark = 2; show = show; slide = slide; limit = limit; acceptedPrice = first; repricings = later }
 
--- an entry under bids that fall, and under one that rises over its price; refused events among them: the same entry again, and a bid that is none
-abbrev pub underBids : Event → List Event
-underBids e = restrictedDay (e ∷ e ∷ bid 90_500 ∷ bid 90_501 ∷ bid 90_200 ∷ bid 89_000 ∷ bid 91_500 ∷ [])
+-- events after two that turn the restriction on, with a bid of 91,000
+abbrev pub onRestrictedDay : List Answered → List Answered
+onRestrictedDay xs = gets (bid 91_000) [] ∷ gets (tape 90_000) (restrictionStarts ∷ []) ∷ xs
 
--- the answers, given the reports of the three bids that fall
-abbrev pub underBidsAnswers : ℕ → List Report → List Report → List Report → List (Outcome (List Report))
-underBidsAnswers s first second third =
-    gives [] ∷ gives (restrictionStarts ∷ []) ∷ gives (accepted 1 1 (permitted s 91_000) ∷ []) ∷ refuses 6
-    ∷ gives first ∷ refuses 3 ∷ gives second ∷ gives third ∷ gives [] ∷ []
+-- the entry e under bids that fall, with these reports, and under one that rises over its price; refused events among them: the same entry again, and a bid that is none
+abbrev pub underBids : ℕ → Event → List Report → List Report → List Report → List Answered
+underBids s e first second third =
+    onRestrictedDay (gets e (accepted 1 1 (91_000 + s) ∷ []) ∷ isRefused e 6 ∷ gets (bid 90_500) first ∷ isRefused (bid 90_501) 3
+    ∷ gets (bid 90_200) second ∷ gets (bid 89_000) third ∷ gets (bid 91_500) [] ∷ [])
 
--- the limits of the claim: a hidden short, and one that is shown at the bid before the trigger
-abbrev pub hiddenEvents : List Event
-hiddenEvents = restrictedDay (entryOf 1 2 90_500 5 0 0 0 ∷ bid 91_200 ∷ [])
+-- orders of which the claim is false: a hidden one, and one that is displayed at the bid before the trigger
+abbrev pub hiddenShort : ℕ → List Answered
+hiddenShort s = onRestrictedDay (gets (entryOf 1 2 90_500 5 0 0 0) (accepted 1 1 (91_000 + s) ∷ []) ∷ gets (bid 91_200) (repriced 1 (91_200 + s) 2 ∷ []) ∷ [])
 
-abbrev pub hiddenAnswers : ℕ → List (Outcome (List Report))
-hiddenAnswers s =
-    gives [] ∷ gives (restrictionStarts ∷ []) ∷ gives (accepted 1 1 (permitted s 91_000) ∷ []) ∷ gives (repriced 1 (permitted s 91_200) 2 ∷ []) ∷ []
-
-abbrev pub shownBeforeEvents : List Event
-shownBeforeEvents = bid 91_000 ∷ entryOf 1 2 91_000 5 1 0 0 ∷ tape 90_000 ∷ []
-
-abbrev pub shownBeforeAnswers : ℕ → List (Outcome (List Report))
-shownBeforeAnswers s = gives [] ∷ gives (accepted 1 1 91_000 ∷ []) ∷ gives (restrictionStarts ∷ repriced 1 (permitted s 91_000) 2 ∷ []) ∷ []
+abbrev pub displayedBefore : ℕ → List Answered
+displayedBefore s =
+    gets (bid 91_000) [] ∷ gets (entryOf 1 2 91_000 5 1 0 0) (accepted 1 1 91_000 ∷ []) ∷ gets (tape 90_000) (restrictionStarts ∷ repriced 1 (91_000 + s) 2 ∷ []) ∷ []
 
 -- claims that are too wide: of hidden orders too; of orders that were accepted at their limit too
 abbrev pub HiddenToo : PricesGiven → Type 0
-HiddenToo g = (g .mark ≡ 2) × (g .limit < g .accepted)
+HiddenToo g = (g .mark ≡ 2) × (g .limit < g .acceptedPrice)
 
 abbrev pub AtItsLimitToo : PricesGiven → Type 0
-AtItsLimitToo g = (g .mark ≡ 2) × (g .show ≡ 1) × (g .limit ≤ g .accepted)
+AtItsLimitToo g = (g .mark ≡ 2) × (g .show ≡ 1) × (g .limit ≤ g .acceptedPrice)
 
 pub record SlidPricesPlayed (s : ℕ) : Type 0 where
   pub continuous :
-      Slides s (underBids (entryOf 1 2 90_000 5 1 0 0)) (underBidsAnswers s (repriced 1 (permitted s 90_500) 2 ∷ []) (repriced 1 (permitted s 90_200) 3 ∷ []) (repriced 1 90_000 4 ∷ []))
-      (shortWith 1 0 90_000 (permitted s 91_000) (90_000 ∷ permitted s 90_200 ∷ permitted s 90_500 ∷ []))
-  pub once : Slides s (underBids (entryOf 1 2 90_000 5 1 0 1)) (underBidsAnswers s (repriced 1 91_000 2 ∷ []) [] []) (shortWith 1 1 90_000 (permitted s 91_000) (91_000 ∷ []))
-  pub noMore : Slides s (underBids (entryOf 1 2 90_000 5 1 0 2)) (underBidsAnswers s [] [] []) (shortWith 1 2 90_000 (permitted s 91_000) [])
+      Slides s (underBids s (entryOf 1 2 90_000 5 1 0 0) (repriced 1 (90_500 + s) 2 ∷ []) (repriced 1 (90_200 + s) 3 ∷ []) (repriced 1 90_000 4 ∷ []))
+      (shortWith 1 0 90_000 (91_000 + s) (90_000 ∷ (90_200 + s) ∷ (90_500 + s) ∷ []))
+  pub once : Slides s (underBids s (entryOf 1 2 90_000 5 1 0 1) (repriced 1 91_000 2 ∷ []) [] []) (shortWith 1 1 90_000 (91_000 + s) (91_000 ∷ []))
+  pub noMore : Slides s (underBids s (entryOf 1 2 90_000 5 1 0 2) [] [] []) (shortWith 1 2 90_000 (91_000 + s) [])
+  pub optOut :
+      Slides s (onRestrictedDay (gets (entryOf 1 2 90_000 5 1 0 3) (accepted 1 1 (91_000 + s) ∷ cancelled 1 5 3 ∷ []) ∷ gets (bid 90_500) [] ∷ []))
+      (shortWith 1 3 90_000 (91_000 + s) [])
   pub market :
-      Slides s (underBids (entryOf 1 2 0 5 1 0 0)) (underBidsAnswers s (repriced 1 (permitted s 90_500) 2 ∷ []) (repriced 1 (permitted s 90_200) 3 ∷ []) (repriced 1 (permitted s 89_000) 4 ∷ []))
-      (shortWith 1 0 1 (permitted s 91_000) (permitted s 89_000 ∷ permitted s 90_200 ∷ permitted s 90_500 ∷ []))
+      Slides s (underBids s (entryOf 1 2 0 5 1 0 0) (repriced 1 (90_500 + s) 2 ∷ []) (repriced 1 (90_200 + s) 3 ∷ []) (repriced 1 (89_000 + s) 4 ∷ []))
+      (shortWith 1 0 1 (91_000 + s) ((89_000 + s) ∷ (90_200 + s) ∷ (90_500 + s) ∷ []))
   pub ofFirm :
-      Slides s (underBids (ownedOf 1 2 90_400 5 1 0 0 7)) (underBidsAnswers s (repriced 1 (permitted s 90_500) 2 ∷ []) (repriced 1 90_400 3 ∷ []) [])
-      (shortWith 1 0 90_400 (permitted s 91_000) (90_400 ∷ permitted s 90_500 ∷ []))
-  -- hidden orders' prices do rise, and so does that of a short shown at the bid before the trigger: the law is false of them
-  pub hiddenRises : Slides s hiddenEvents (hiddenAnswers s) (shortWith 0 0 90_500 (permitted s 91_000) (permitted s 91_200 ∷ []))
-  pub notOfHidden : OnlyFallFor HiddenToo (tell hiddenEvents (hiddenAnswers s)) → ⊥
-  pub shownBeforeRises : Slides s shownBeforeEvents (shownBeforeAnswers s) (shortWith 1 0 91_000 91_000 (permitted s 91_000 ∷ []))
-  pub notAtItsLimit : OnlyFallFor AtItsLimitToo (tell shownBeforeEvents (shownBeforeAnswers s)) → ⊥
+      Slides s (underBids s (ownedOf 1 2 90_400 5 1 0 0 7) (repriced 1 (90_500 + s) 2 ∷ []) (repriced 1 90_400 3 ∷ []) [])
+      (shortWith 1 0 90_400 (91_000 + s) (90_400 ∷ (90_500 + s) ∷ []))
+  -- hidden orders' prices do rise, and so does that of a short displayed at the bid before the trigger
+  pub hiddenRises : Slides s (hiddenShort s) (shortWith 0 0 90_500 (91_000 + s) ((91_200 + s) ∷ []))
+  pub notOfHidden : OnlyFallFor HiddenToo (hiddenShort s) → ⊥
+  pub displayedBeforeRises : Slides s (displayedBefore s) (shortWith 1 0 91_000 91_000 ((91_000 + s) ∷ []))
+  pub notAtItsLimit : OnlyFallFor AtItsLimitToo (displayedBefore s) → ⊥
 
--- a re-priced short that works against an older buy
-abbrev pub takerEvents : List Event
-takerEvents = restrictedDay (entryOf 1 2 90_000 5 1 0 0 ∷ entryOf 2 0 90_500 5 1 0 0 ∷ bid 90_200 ∷ [])
+-- document 01's day: 91,100, 90,800, 90,500, and stamps 1 to 4
+abbrev pub answeredTo : List Event → List Answered
+answeredTo es = run (opened 100 100_000) (map callOf es) .answered
 
-abbrev pub takerReports : List (List Report)
-takerReports =
-    [] ∷ (restrictionStarts ∷ []) ∷ (accepted 1 1 91_100 ∷ []) ∷ (accepted 2 2 90_500 ∷ []) ∷ (repriced 1 90_300 3 ∷ tradeOf 2 1 90_500 5 ∷ []) ∷ []
+abbrev pub stampedTrade : ℕ → ℕ → ℕ → ℕ → ℕ → ℕ → ℕ → StampedTrade
+stampedTrade buyer seller price shares buyerStamp sellerStamp working =
+    record { execution = record { buyer = buyer; seller = seller; price = price; shares = shares }; buyerStamp = buyerStamp; sellerStamp = sellerStamp; working = working }
 
-pub record StampsTold : Type 0 where
-  -- document 01's day: 91,100, 90,800, 90,500, and stamps 1 to 4
-  pub theDay : Slides 100 dayEvents (map gives dayReports) (shortWith 1 0 90_500 91_100 (90_500 ∷ 90_800 ∷ []))
-  pub stamps : stampsOf (tell dayEvents (map gives dayReports)) .given ≡ 4 ∷ 3 ∷ 2 ∷ 1 ∷ []
-  pub trades : stampsOf (tell dayEvents (map gives dayReports)) .trades ≡ record { buyer = 2; seller = 1; buyerStamp = 2; sellerStamp = 1; working = 2 } ∷ []
-  pub repricedTakes : Slides 100 takerEvents (map gives takerReports) (shortWith 1 0 90_000 91_100 (90_300 ∷ []))
-  pub takerTold : stampsOf (tell takerEvents (map gives takerReports)) .trades ≡ record { buyer = 2; seller = 1; buyerStamp = 2; sellerStamp = 3; working = 1 } ∷ []
+-- a re-priced short works against an older buy; a day ends, and stamps go on
+abbrev pub overDayEnd : List Answered
+overDayEnd =
+    onRestrictedDay (gets (entryOf 1 2 90_000 5 1 0 0) (accepted 1 1 91_100 ∷ []) ∷ gets (entryOf 2 0 90_500 5 1 0 0) (accepted 2 2 90_500 ∷ [])
+    ∷ gets (bid 90_200) (repriced 1 90_300 3 ∷ tradeOf 2 1 90_500 5 ∷ []) ∷ gets (dayEnd 90_000) (dayEnded 2 ∷ [])
+    ∷ gets (entryOf 3 1 90_000 5 1 0 0) (accepted 3 4 90_000 ∷ []) ∷ [])
+
+pub record StampsComputed : Type 0 where
+  pub dayPrices : pricesOf (answeredTo dayEvents) 1 ≡ shortWith 1 0 90_500 91_100 (90_500 ∷ 90_800 ∷ [])
+  pub dayStamps : stampsOf (answeredTo dayEvents) .given ≡ 4 ∷ 3 ∷ 2 ∷ 1 ∷ []
+  pub dayTrades : stampsOf (answeredTo dayEvents) .trades ≡ stampedTrade 2 1 91_100 200 2 1 2 ∷ []
+  pub overDays : Slides 100 overDayEnd (shortWith 1 0 90_000 91_100 (90_300 ∷ []))
+  pub stampsGoOn : stampsOf overDayEnd .given ≡ 4 ∷ 3 ∷ 2 ∷ 1 ∷ []
+  pub repricedTakes : stampsOf overDayEnd .trades ≡ stampedTrade 2 1 90_500 5 2 3 1 ∷ []
 
 pub record SlidPricesComputed : Type 0 where
-  pub stamps : StampsTold
+  pub stamps : StampsComputed
   pub atBoth : All SlidPricesPlayed (100 ∷ 50 ∷ [])
 
 -- other steps than 50 and 100 (No. 2), beside a close, a bid and a price that are refused at every step: "refused with 17, before the close or price is looked

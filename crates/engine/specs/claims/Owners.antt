@@ -63,11 +63,12 @@ pub record Owners : Type 0 where
 abbrev pub noOwners : Owners
 noOwners = record { owner = λ k. 0; working = 0; trades = []; withdrawals = [] }
 
--- an accepted event begins: no order works yet, and an entry names its owner
+-- an accepted entry names its owner
 abbrev pub namedBy : Option Entered → (ℕ → ℕ) → ℕ → ℕ
 namedBy none f = f
 namedBy (some x) f = setAt (x.entry.id) (x .owner) f
 
+-- an accepted event begins: no order works yet
 abbrev pub ownersAfter : Option Entered → Owners → Owners
 ownersAfter x c = record { owner = namedBy x (c .owner); working = 0; trades = c.trades; withdrawals = c.withdrawals }
 

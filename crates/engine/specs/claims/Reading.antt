@@ -1,4 +1,4 @@
--- How an account reads a list: each event, its answer and its reports, in order. No definition here names the venue. Assumes nothing.
+-- How accounts of entries and reports read a list: each event, its answer and its reports, in order. No definition here names the venue. Assumes nothing.
 use Prim.Native.Nat.{ℕ}
 use mathlib.Core.List.{List, foldl}
 use mathlib.Core.Option.{Option, none, some}

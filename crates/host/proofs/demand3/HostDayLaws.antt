@@ -246,7 +246,7 @@ pub equal-day-reports : EqualDayReports
 equal-day-reports s close w v w₀ v₀ h k hs gs w′ v′ c d q l m =
     equal-host-reports s close w v w₀ v₀ h k (oneByOne hs) (oneByOne gs) w′ v′ (calls c) (calls d) q (all-long hs l) (all-long gs m)
 
--- what every chain of calls of apply from the words w₀ has, if they mean a fresh venue, calls of both kinds from venue_open on have
+-- a claim of every chain of calls of apply from words that mean a fresh venue holds of every list of a host's calls, of both kinds, from venue_open on
 pub for-hosts : {w w₀ w′ : List ℕ} {s close : ℕ} {hs : List HostCall} (Claim : List AppliedCall → List ℕ → Type 0) → (T (isStep s) → T (legal s close) → T (isBook w₀) → venueOf w₀ ≡ opened s close → (cs : List AppliedCall) (w″ : List ℕ) → Chain w₀ cs w″ → Claim cs w″) → HostOpened w s close 0 w₀ → HostChain w₀ hs w′ → Claim (map appliedCall (eventCalls (oneByOne hs))) w′
 for-hosts {w₀ = w₀} {w′ = w′} {hs = hs} Claim k h c =
     let f = opened-fresh h in
