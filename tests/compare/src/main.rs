@@ -74,6 +74,7 @@ mod sessions;
 mod shown;
 #[cfg(feature = "engine")]
 mod sides;
+mod slid_prices;
 mod streams;
 mod withdrawals;
 
