@@ -74,7 +74,11 @@ mod sessions;
 mod shown;
 #[cfg(feature = "engine")]
 mod sides;
+#[cfg(test)]
+mod slid_days;
 mod slid_prices;
+#[cfg(test)]
+mod slides_gone_wrong;
 mod streams;
 mod withdrawals;
 
