@@ -1,4 +1,4 @@
-//! A second implementation of the venue of document 01 and of No. 1 to No. 8 of
+//! A second implementation of the venue of document 01 and of No. 1 to No. 9 of
 //! document 02, and its comparison with the proved engine. See README.md.
 
 mod account;
@@ -76,6 +76,8 @@ mod shown;
 mod sides;
 #[cfg(test)]
 mod slid_days;
+mod slid_events;
+mod slid_price_counts;
 mod slid_prices;
 #[cfg(test)]
 mod slides_gone_wrong;

@@ -21,6 +21,17 @@ pub struct Given {
 }
 
 impl Given {
+    /// An order whose entry was accepted with this price and stamp.
+    pub fn at_entry(entry: Entry, price: u32, stamp: u32) -> Self {
+        Given {
+            entry,
+            accepted: price,
+            price,
+            stamp,
+            repricings: 0,
+        }
+    }
+
     /// "A market short has limit 1 here."
     pub fn limit(&self) -> u32 {
         match self.entry.price {
@@ -103,13 +114,7 @@ impl SlidPrices {
         match *report {
             Report::Accepted { id, stamp, price } => {
                 ensure(self.given(id).is_err(), "report 1 comes once for an id")?;
-                self.give(Given {
-                    entry: entry_of(event, id)?,
-                    accepted: price,
-                    price,
-                    stamp,
-                    repricings: 0,
-                });
+                self.give(Given::at_entry(entry_of(event, id)?, price, stamp));
             }
             Report::Repriced { id, price, stamp } => {
                 let before = *self.given(id)?;

@@ -62,7 +62,7 @@ const EQUAL_TOO: (&str, Law) = ("adjusted if equal to its limit", |list, report|
     })
 });
 
-const LAWS: [(&str, Law); 11] = [
+const LAWS: [(&str, Law); 13] = [
     LAW,
     HIDDEN_TOO,
     EQUAL_TOO,
@@ -74,6 +74,12 @@ const LAWS: [(&str, Law); 11] = [
     }),
     ("continuous with one", |list, report| {
         at_most(list, report, 1, |entry| entry.slide == 0)
+    }),
+    ("continuous with two", |list, report| {
+        at_most(list, report, 2, |entry| entry.slide == 0)
+    }),
+    ("continuous with three", |list, report| {
+        at_most(list, report, 3, |entry| entry.slide == 0)
     }),
     ("a market short with none", |list, report| {
         at_most(list, report, 0, |entry| entry.price == 0)
