@@ -90,10 +90,7 @@ impl Examiner for Checked {
                 counts.accept(&self.before, &event, count, &reports);
                 self.hold(&event, Ok(&reports), counts)?;
                 ensure(self.lent.keeps_from(count), "bytes behind the reports")?;
-                self.firms.take(&event, self.lent.front(count))?;
-                if let Some(slid_prices) = &mut self.slid_prices {
-                    slid_prices.take(&event, self.lent.front(count))?;
-                }
+                self.read_list(&event, count)?;
                 self.lent.restore(count);
                 ensure(count <= LEAST_BUFFER, "16,384 bytes")?;
                 self.check_accepted(&event, &reports)?;
@@ -126,6 +123,16 @@ impl Checked {
             slid_prices: None,
             lent: Lent::new(),
             rng: Rng::new(0),
+        }
+    }
+
+    /// What is read from events, answers and report bytes alone.
+    fn read_list(&mut self, event: &Event, count: usize) -> Result<(), Fault> {
+        let bytes = self.lent.front(count);
+        self.firms.take(event, bytes)?;
+        match &mut self.slid_prices {
+            Some(slid_prices) => slid_prices.take(event, bytes),
+            None => Ok(()),
         }
     }
 

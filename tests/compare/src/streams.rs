@@ -529,15 +529,8 @@ impl Session {
                 return self.spoil_seldom(event, venue);
             }
         }
-        if self.market.has_firms() && self.rng.one_in(EVENTS_A_MEETING) {
-            if let Some(event) = meet_own(&mut self.rng, &self.market, venue) {
-                return event;
-            }
-        }
-        if self.kind.is_from_open() && self.rng.one_in(EVENTS_A_SLIDE) {
-            if let Some(event) = slide_again(&mut self.rng, &self.market, venue) {
-                return event;
-            }
+        if let Some(event) = self.seldom(venue) {
+            return event;
         }
         let sound = self.market.event(&mut self.rng, venue);
         let nonsense_one_in = match self.kind {
@@ -550,6 +543,18 @@ impl Session {
         } else {
             sound
         }
+    }
+
+    /// At times an event that chance alone brings about too seldom.
+    fn seldom(&mut self, venue: &Venue) -> Option<Event> {
+        let (rng, market) = (&mut self.rng, &self.market);
+        if market.has_firms() && rng.one_in(EVENTS_A_MEETING) {
+            if let Some(event) = meet_own(rng, market, venue) {
+                return Some(event);
+            }
+        }
+        let slides = self.kind.is_from_open() && rng.one_in(EVENTS_A_SLIDE);
+        slides.then(|| slide_again(rng, market, venue)).flatten()
     }
 
     /// Of entries for a full book, some with one field that isn't sound.
