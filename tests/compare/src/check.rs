@@ -21,6 +21,7 @@ use crate::price_rules;
 use crate::questions::any_questions;
 use crate::rng::Rng;
 use crate::sessions::{self, ensure, Examiner, Fault};
+use crate::slid_prices::SlidPrices;
 use crate::streams::{Call, Session};
 
 /// The most questions before an event of most venues.
@@ -31,13 +32,14 @@ pub fn run(seed: u64, events: u64) -> bool {
     sessions::run(seed, events, &mut Checked::new())
 }
 
-/// A venue under check, with the account of its events if it comes from open, and with
-/// the owners of its orders as its events gave them.
+/// A venue under check, with the account of its events and the law of slid prices if it
+/// comes from open, and with the owners of its orders as its events gave them.
 struct Checked {
     venue: Venue,
     before: Venue,
     account: Option<Account>,
     firms: Firms,
+    slid_prices: Option<SlidPrices>,
     lent: Lent,
     rng: Rng,
 }
@@ -49,6 +51,7 @@ impl Examiner for Checked {
         self.venue = session.start.clone();
         self.account = from_open.then(|| Account::new(self.venue.close));
         self.firms = Firms::start(&self.venue);
+        self.slid_prices = SlidPrices::start(from_open);
         price_rules::check_record(&self.venue)?;
         by_owners::check_record(&self.venue)?;
         let opened = Venue::open(self.venue.step, self.venue.close);
@@ -87,7 +90,7 @@ impl Examiner for Checked {
                 counts.accept(&self.before, &event, count, &reports);
                 self.hold(&event, Ok(&reports), counts)?;
                 ensure(self.lent.keeps_from(count), "bytes behind the reports")?;
-                self.firms.take(&event, self.lent.front(count))?;
+                self.read_list(&event, count)?;
                 self.lent.restore(count);
                 ensure(count <= LEAST_BUFFER, "16,384 bytes")?;
                 self.check_accepted(&event, &reports)?;
@@ -117,8 +120,19 @@ impl Checked {
             firms: Firms::start(&venue),
             venue,
             account: None,
+            slid_prices: None,
             lent: Lent::new(),
             rng: Rng::new(0),
+        }
+    }
+
+    /// What is read from events, answers and report bytes alone.
+    fn read_list(&mut self, event: &Event, count: usize) -> Result<(), Fault> {
+        let bytes = self.lent.front(count);
+        self.firms.take(event, bytes)?;
+        match &mut self.slid_prices {
+            Some(slid_prices) => slid_prices.take(event, bytes),
+            None => Ok(()),
         }
     }
 

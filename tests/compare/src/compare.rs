@@ -21,6 +21,7 @@ use crate::replay::Replay;
 use crate::rng::Rng;
 use crate::sessions::{self, Examiner, Fault};
 use crate::sides::Sides;
+use crate::slid_prices::SlidPrices;
 use crate::streams::{Call, Session};
 
 /// At so many events, on average, the observing calls are compared once.
@@ -43,11 +44,12 @@ pub fn same<T: PartialEq + std::fmt::Debug>(what: &str, engine: T, model: T) -> 
     }
 }
 
-/// Both sides, and what they are lent; and the owners of the engine's orders as the events
-/// that it accepted gave them.
+/// Both sides, and what they are lent; the owners of the engine's orders as the events that
+/// it accepted gave them; and from open the law of slid prices, of the engine's reports.
 struct Pair {
     sides: Sides,
     firms: Firms,
+    slid_prices: Option<SlidPrices>,
     applier: Applier,
     observer: Observer,
     replay: Replay,
@@ -59,6 +61,7 @@ impl Pair {
         let sides = Sides::new();
         Pair {
             firms: Firms::start(&sides.venue),
+            slid_prices: None,
             sides,
             applier: Applier::new(),
             observer: Observer::new(),
@@ -83,6 +86,9 @@ impl Pair {
                 let reports = Report::read_all(&applied.bytes);
                 let reports = reports.map_err(|refusal| format!("reports: {refusal:?}"))?;
                 self.firms.take(&event, &applied.bytes)?;
+                if let Some(slid_prices) = &mut self.slid_prices {
+                    slid_prices.take(&event, &applied.bytes)?;
+                }
                 counts.accept(&before, &event, count, &reports);
                 self.check_full(&before, &event, call.buffer, Ok(&reports), counts)?;
             }
@@ -134,6 +140,7 @@ impl Examiner for Pair {
         self.rng = Rng::new(!seed);
         self.sides.start(&mut self.rng, session, counts)?;
         self.firms = Firms::start(&self.sides.venue);
+        self.slid_prices = SlidPrices::start(session.kind.is_from_open());
         self.replay.start(&self.sides);
         self.look(counts)
     }

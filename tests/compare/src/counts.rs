@@ -10,6 +10,7 @@ use crate::model::{is_step, Stop};
 use crate::model::{Event, Refusal, Report, Venue, Watch};
 use crate::refused_entries::RefusedEntries;
 use crate::rng::Rng;
+use crate::slid_price_counts::Slides;
 use crate::streams::{Kind, Session, MOST_BUFFER};
 use crate::withdrawals::Withdrawals;
 use std::fmt;
@@ -64,6 +65,7 @@ pub struct Counts {
     pub falls: Falls,
     pub withdrawals: Withdrawals,
     pub full_books: FullBooks,
+    slides: Slides,
     #[cfg(feature = "engine")]
     host: HostCounts,
 }
@@ -107,6 +109,7 @@ impl Counts {
         let from_open = session.kind.is_from_open();
         self.withdrawals.start(&session.start, from_open);
         self.full_books.start(from_open);
+        self.slides.start(from_open);
     }
 
     /// A record that can't be read.
@@ -132,6 +135,7 @@ impl Counts {
         self.falls.accept(before, event, reports);
         self.withdrawals.accept(before, event, reports);
         self.full_books.accept(before, event, reports);
+        self.slides.accept(before, event, reports);
         self.most_bytes = self.most_bytes.max(bytes);
         for report in reports {
             match report {
@@ -308,6 +312,7 @@ impl fmt::Display for Counts {
         writeln!(f, "{}", self.falls)?;
         writeln!(f, "{}", self.withdrawals)?;
         writeln!(f, "{}", self.full_books)?;
+        writeln!(f, "{}", self.slides)?;
         #[cfg(feature = "engine")]
         if self.host.copies.accepted > 0 {
             write!(f, "{}", self.host)?;

@@ -1,6 +1,8 @@
 //! Days in words, with the lines that the program prints for each event.
 
-use crate::model::{write_number, Event, RecordCheck, Report, Venue, LEAST_BUFFER, LONGEST_NUMBER};
+use crate::model::{
+    read_record, write_number, Event, RecordCheck, Report, Venue, LEAST_BUFFER, LONGEST_NUMBER,
+};
 use crate::program::play;
 
 /// An event, its kind as a word, and its lines.
@@ -32,6 +34,25 @@ fn push_number(input: &mut Vec<u8>, number: u64) {
     let mut bytes = [0; LONGEST_NUMBER];
     let end = write_number(&mut bytes, 0, number);
     input.extend_from_slice(&bytes[..end]);
+}
+
+/// The event that words say.
+pub fn event_of(words: &str) -> Event {
+    let mut bytes = Vec::new();
+    push_event(&mut bytes, words);
+    read_record(&bytes, 0).expect("an event").0
+}
+
+/// The bytes of the reports that lines say: these are words of numbers as well.
+pub fn report_bytes(lines: &[&str]) -> Vec<u8> {
+    let mut bytes = Vec::new();
+    lines.iter().for_each(|line| push_event(&mut bytes, line));
+    bytes
+}
+
+/// Whether an event with these lines is refused.
+pub fn is_refused(lines: &[&str]) -> bool {
+    lines.first().is_some_and(|line| line.starts_with("0 "))
 }
 
 /// Plays the day at a step up to each of its events, after a close of 100,000.

@@ -1,10 +1,8 @@
 //! Days of firms that don't trade with themselves, worked out by hand from No. 7 of
 //! document 02. An owned entry is id, mark, price, shares, show, life, slide, owner.
 
-use crate::days::{after_close, assert_day, lines_after, push_event, Played, ON};
-use crate::model::{
-    copy_out, read_record, Event, Order, OrderRecord, RecordCheck, Venue, CENT, HALF_CENT,
-};
+use crate::days::{after_close, assert_day, event_of, lines_after, push_event, Played, ON};
+use crate::model::{copy_out, Event, Order, OrderRecord, RecordCheck, Venue, CENT, HALF_CENT};
 use crate::program::{play, venue_after};
 
 fn assert_day_at_both_steps(day: &[Played]) {
@@ -372,12 +370,7 @@ fn the_fill_question_has_owner_0() {
     let mut input = after_close(100_000);
     push_event(&mut input, "owned 1 0 90000 100 1 0 0 7");
     let mut venue = venue_after(CENT, &input).expect("a whole day");
-    let entry = |owner| {
-        let mut input = Vec::new();
-        push_event(&mut input, &format!("owned 2 1 90000 100 1 1 0 {owner}"));
-        let (event, _) = read_record(&input, 0).expect("an entry");
-        event
-    };
+    let entry = |owner| event_of(&format!("owned 2 1 90000 100 1 1 0 {owner}"));
     let Event::Entry(owned) = entry(7) else {
         panic!("an entry");
     };

@@ -69,17 +69,14 @@ impl Firms {
 #[cfg(test)]
 mod tests {
     use super::*;
-    use crate::days::push_event;
-    use crate::model::{read_record, CENT};
+    use crate::days::event_of;
+    use crate::model::CENT;
 
     /// Takes events, each with its report bytes.
     fn taken(day: &[(&str, &[u8])]) -> Result<(), Fault> {
         let mut firms = Firms::start(&Venue::fresh(CENT, 100_000));
         for (event, bytes) in day {
-            let mut input = Vec::new();
-            push_event(&mut input, event);
-            let (event, _) = read_record(&input, 0).expect("an event");
-            firms.take(&event, bytes)?;
+            firms.take(&event_of(event), bytes)?;
         }
         Ok(())
     }

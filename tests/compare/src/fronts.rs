@@ -201,7 +201,7 @@ mod tests {
     use crate::model::RecordCheck;
     use crate::questions::any_questions;
     use crate::rng::Rng;
-    use crate::shown::show_events;
+    use crate::shown::assert_told_apart;
 
     /// A wrong version of the rule, and what is wrong with it.
     type Wrong = (&'static str, Rule);
@@ -355,10 +355,9 @@ mod tests {
         wrong.map(|(name, read)| (name, version(read))).to_vec()
     }
 
-    /// The names of the versions that so many events don't tell from the model at a
-    /// step.
-    fn untold(seed: u64, step: u32, events: u32) -> Vec<&'static str> {
-        let mut untold = [
+    #[test]
+    fn wrong_versions_are_told_apart_and_the_rule_is_not() {
+        let versions = [
             vec![(RULE, rule())],
             other_refusals(),
             other_prices(),
@@ -367,28 +366,15 @@ mod tests {
             other_counts(),
         ]
         .concat();
-        let mut rng = Rng::new(!seed);
-        show_events(seed, events, |venue, _, _| {
-            if venue.step != step {
-                return;
-            }
+        let mut rng = Rng::new(0);
+        assert_told_apart(RULE, &versions, |shown, untold| {
+            let venue = shown.before;
             for asked in any_questions(&mut rng, venue, 1) {
                 let right = venue.would_fill(&asked, RecordCheck::Done);
                 let right = right.map_err(Refusal::number);
                 untold.retain(|(_, wrong)| wrong.answer(&asked, venue) == right);
             }
         });
-        untold.into_iter().map(|(name, _)| name).collect()
-    }
-
-    #[test]
-    fn wrong_versions_are_told_apart_and_the_rule_is_not() {
-        for seed in [1, 2, 3] {
-            for step in [50, 100] {
-                let names = untold(seed, step, 50_000);
-                assert_eq!(names, [RULE], "seed {seed}, step {step}");
-            }
-        }
     }
 
     /// A buy of 5 shares at 90,000 on an empty book.

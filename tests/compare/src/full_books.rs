@@ -146,7 +146,7 @@ mod tests {
     use super::*;
     use crate::conditions::Breaks;
     use crate::fronts::{limit, working_price};
-    use crate::shown::show_all;
+    use crate::shown::assert_told_apart;
 
     fn buy(id: u32) -> Order {
         Order {
@@ -523,32 +523,19 @@ mod tests {
         versions
     }
 
-    /// The names of the versions that so many events don't tell from the model at a
-    /// step.
-    fn untold(seed: u64, step: u32, events: u32) -> Vec<String> {
-        let mut untold = versions();
-        show_all(seed, events, |shown| {
+    #[test]
+    fn wrong_versions_are_told_apart_and_the_rule_is_not() {
+        assert_told_apart(RULE, &versions(), |shown, untold| {
             let Event::Entry(entry) = shown.event else {
                 return;
             };
             let early = [Refusal::VenueRecord, Refusal::ShortBuffer, Refusal::Spent];
             let answer = shown.answer.err();
-            if shown.before.step != step || answer.is_some_and(|it| early.contains(&it)) {
+            if answer.is_some_and(|it| early.contains(&it)) {
                 return;
             }
             let right = answer.map(Refusal::number);
             untold.retain(|(_, wrong)| refusal_of(wrong, entry, shown.before) == right);
         });
-        untold.into_iter().map(|(name, _)| name).collect()
-    }
-
-    #[test]
-    fn wrong_versions_are_told_apart_and_the_rule_is_not() {
-        for seed in [1, 2, 3] {
-            for step in [50, 100] {
-                let names = untold(seed, step, 50_000);
-                assert_eq!(names, [RULE], "seed {seed}, step {step}");
-            }
-        }
     }
 }

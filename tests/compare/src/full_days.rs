@@ -1,10 +1,9 @@
 //! Days with full books, worked out by hand from No. 8 of document 02. An entry is id,
 //! mark, price, shares, show, life, slide, and an owned one also has an owner.
 
-use crate::days::{after_close, push_event, Played};
+use crate::days::{after_close, event_of, push_event, Played};
 use crate::model::{
-    read_record, Event, Order, RecordCheck, Refusal, Venue, CENT, HALF_CENT, LEAST_BUFFER,
-    MOST_EVENTS,
+    Order, RecordCheck, Refusal, Venue, CENT, HALF_CENT, LEAST_BUFFER, MOST_EVENTS,
 };
 use crate::program::{play, venue_after};
 
@@ -352,18 +351,12 @@ fn the_other_refusals_stay() {
     );
 }
 
-fn event(words: &str) -> Event {
-    let mut bytes = Vec::new();
-    push_event(&mut bytes, words);
-    read_record(&bytes, 0).expect("a record").0
-}
-
 /// 16, 1 and 2 come before all that, as ever; and an accepted one takes an id, a stamp and
 /// one of the events.
 #[test]
 fn what_an_entry_without_a_place_leaves() {
     let full = venue_after(CENT, &one_share_each()).expect("a sound stream");
-    let immediate = event("entry 257 0 100 5 1 1 0");
+    let immediate = event_of("entry 257 0 100 5 1 1 0");
     let apply = |venue: &Venue, buffer: usize| {
         let mut after = venue.clone();
         let answer = after.apply(&immediate, &mut vec![0; buffer], RecordCheck::Done);

@@ -1,4 +1,4 @@
-//! A second implementation of the venue of document 01 and of No. 1 to No. 8 of
+//! A second implementation of the venue of document 01 and of No. 1 to No. 9 of
 //! document 02, and its comparison with the proved engine. See README.md.
 
 mod account;
@@ -74,6 +74,13 @@ mod sessions;
 mod shown;
 #[cfg(feature = "engine")]
 mod sides;
+#[cfg(test)]
+mod slid_days;
+mod slid_events;
+mod slid_price_counts;
+mod slid_prices;
+#[cfg(test)]
+mod slides_gone_wrong;
 mod streams;
 mod withdrawals;
 

@@ -223,7 +223,7 @@ pub fn check(
 #[cfg(test)]
 mod tests {
     use super::*;
-    use crate::shown::show_all;
+    use crate::shown::{assert_told_apart, show_all};
 
     /// A wrong version of matching, and what is wrong with it.
     type Wrong = (&'static str, Matching);
@@ -496,32 +496,17 @@ mod tests {
 
     const NAME: &str = "matching";
 
-    /// The names of the versions that so many events don't tell from the model at a
-    /// step.
-    fn untold(seed: u64, step: u32, events: u32) -> Vec<&'static str> {
+    #[test]
+    fn wrong_versions_are_told_apart_and_the_rule_is_not() {
         let right: Wrong = (NAME, matching);
-        let mut untold = [&[right][..], &OTHER_FIRMS, &OTHER_ANSWERS, &OTHER_MOMENTS].concat();
-        show_all(seed, events, |shown| {
-            if shown.before.step != step {
-                return;
-            }
+        let versions = [&[right][..], &OTHER_FIRMS, &OTHER_ANSWERS, &OTHER_MOMENTS].concat();
+        assert_told_apart(NAME, &versions, |shown, untold| {
             if let Ok(reports) = shown.answer {
                 untold.retain(|(_, wrong)| {
                     holds(*wrong, shown.before, shown.event, reports, shown.after)
                 });
             }
         });
-        untold.into_iter().map(|(name, _)| name).collect()
-    }
-
-    #[test]
-    fn wrong_versions_are_told_apart_and_the_rule_is_not() {
-        for seed in [1, 2, 3] {
-            for step in [50, 100] {
-                let names = untold(seed, step, 50_000);
-                assert_eq!(names, [NAME], "seed {seed}, step {step}");
-            }
-        }
     }
 
     /// Without owners the versions that differ about firms alone are all alike, and so is

@@ -146,7 +146,7 @@ mod tests {
     use crate::model::{watch_tape, Order};
     use crate::odd::any_watch;
     use crate::rng::Rng;
-    use crate::shown::show_all;
+    use crate::shown::assert_told_apart;
 
     /// A wrong version of the rule, and what is wrong with it.
     type Wrong = (&'static str, Rule);
@@ -330,10 +330,10 @@ mod tests {
 
     const NAME: &str = "the rule";
 
-    /// The names of the versions that so many events at a step and as many watches
-    /// don't tell from the model.
-    fn untold(seed: u64, step: u32, events: u32) -> Vec<&'static str> {
-        let mut untold = [
+    /// By events and by as many watches.
+    #[test]
+    fn wrong_versions_are_told_apart_and_the_rule_is_not() {
+        let versions = [
             vec![(NAME, RULE)],
             other_phases(),
             other_triggers(),
@@ -342,11 +342,8 @@ mod tests {
             other_watches(),
         ]
         .concat();
-        let mut rng = Rng::new(!seed);
-        show_all(seed, events, |shown| {
-            if shown.before.step != step {
-                return;
-            }
+        let mut rng = Rng::new(0);
+        assert_told_apart(NAME, &versions, |shown, untold| {
             if let Ok(reports) = shown.answer {
                 let (before, after) = (shown.before, shown.after);
                 untold.retain(|(_, wrong)| {
@@ -355,21 +352,10 @@ mod tests {
             }
             let (before, price) = any_watch(&mut rng);
             let mut watch = before;
-            if watch_tape(&mut watch, step, price).is_ok() {
+            if watch_tape(&mut watch, shown.before.step, price).is_ok() {
                 untold.retain(|(_, wrong)| (wrong.watch)(&before, price) == watch.phase);
             }
         });
-        untold.into_iter().map(|(name, _)| name).collect()
-    }
-
-    #[test]
-    fn wrong_versions_are_told_apart_and_the_rule_is_not() {
-        for seed in [1, 2, 3] {
-            for step in [50, 100] {
-                let names = untold(seed, step, 50_000);
-                assert_eq!(names, [NAME], "seed {seed}, step {step}");
-            }
-        }
     }
 
     const FIVE: Report = Report::RestrictionOn;

@@ -1,6 +1,6 @@
 //! Streams shown to tests, event by event.
 
-use crate::model::{read_record, Event, RecordCheck, Refusal, Report, Venue};
+use crate::model::{read_record, Event, RecordCheck, Refusal, Report, Venue, CENT, HALF_CENT};
 use crate::rng::Rng;
 use crate::streams::{Session, MOST_BUFFER};
 
@@ -18,18 +18,42 @@ pub struct Shown<'a> {
     pub from_open: bool,
 }
 
+/// What a venue does to an event with a report buffer.
+pub type Apply = fn(&mut Venue, &Event, &mut [u8]) -> Result<Vec<Report>, Refusal>;
+
+/// What the model does.
+pub fn apply(venue: &mut Venue, event: &Event, buffer: &mut [u8]) -> Result<Vec<Report>, Refusal> {
+    let count = venue.apply(event, buffer, RecordCheck::Done)?;
+    Report::read_all(&buffer[..count])
+}
+
 /// Shows so many events, but for those that can't be read.
 pub fn show_all(seed: u64, events: u32, mut see: impl FnMut(&Shown)) {
+    show_while(seed, events, apply, |shown| {
+        see(shown);
+        true
+    });
+}
+
+/// Shows as many of so many events as are asked for, on a venue that does as said.
+pub fn show_while(seed: u64, events: u32, apply: Apply, mut see: impl FnMut(&Shown) -> bool) {
     let mut seeds = Rng::new(seed);
     let mut over = 0;
     while over < events {
         let mut session = Session::new(seeds.next());
-        over += show_session(&mut session, &mut see);
+        match show_session(&mut session, apply, &mut see) {
+            Some(events) => over += events,
+            None => return,
+        }
     }
 }
 
-/// Gives how many events there were.
-fn show_session(session: &mut Session, see: &mut impl FnMut(&Shown)) -> u32 {
+/// Gives how many events there were, if all were asked for.
+fn show_session(
+    session: &mut Session,
+    apply: Apply,
+    see: &mut impl FnMut(&Shown) -> bool,
+) -> Option<u32> {
     let mut buffer = vec![0; MOST_BUFFER];
     let mut venue = session.start.clone();
     let mut close_before = venue.close;
@@ -40,23 +64,25 @@ fn show_session(session: &mut Session, see: &mut impl FnMut(&Shown)) -> u32 {
             continue;
         };
         let before = venue.clone();
-        let answer = venue.apply(&event, &mut buffer[..call.buffer], RecordCheck::Done);
-        let reports = answer.and_then(|count| Report::read_all(&buffer[..count]));
-        see(&Shown {
+        let answer = apply(&mut venue, &event, &mut buffer[..call.buffer]);
+        let goes_on = see(&Shown {
             before: &before,
             event: &event,
-            answer: reports.as_deref().map_err(|refusal| *refusal),
+            answer: answer.as_deref().map_err(|refusal| *refusal),
             after: &venue,
             close_before,
             first,
             from_open: session.kind.is_from_open(),
         });
+        if !goes_on {
+            return None;
+        }
         first = false;
         if matches!((event, answer), (Event::DayEnd { .. }, Ok(_))) {
             close_before = before.close;
         }
     }
-    over
+    Some(over)
 }
 
 /// Shows so many events, each with the venue before it and the answer.
@@ -68,4 +94,25 @@ pub fn show_events(
     show_all(seed, events, |shown| {
         see(shown.before, shown.event, shown.answer.map(|_| ()));
     });
+}
+
+/// Shows 50,000 events of each of three seeds at each step. The versions of a rule that
+/// `tell` leaves, as an event doesn't tell them from the model, are the right one alone.
+pub fn assert_told_apart<N: AsRef<str> + Clone, V: Clone>(
+    right: &str,
+    versions: &[(N, V)],
+    mut tell: impl FnMut(&Shown, &mut Vec<(N, V)>),
+) {
+    for seed in [1, 2, 3] {
+        for step in [HALF_CENT, CENT] {
+            let mut untold = versions.to_vec();
+            show_all(seed, 50_000, |shown| {
+                if shown.before.step == step {
+                    tell(shown, &mut untold);
+                }
+            });
+            let names: Vec<&str> = untold.iter().map(|(name, _)| name.as_ref()).collect();
+            assert_eq!(names, [right], "seed {seed}, step {step}");
+        }
+    }
 }

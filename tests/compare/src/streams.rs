@@ -12,6 +12,7 @@ use crate::model::{
 };
 use crate::odd::{near_miss, odd_code, odd_number, odd_owner};
 use crate::rng::Rng;
+use crate::slid_events::slide_again;
 
 /// At which step and where a session trades, how far from there, and how often
 /// in a hundred events something other than an entry comes; how many of a hundred
@@ -434,6 +435,10 @@ pub struct Session {
 /// its own firm's.
 const EVENTS_A_MEETING: u32 = 12;
 
+/// Of so many events from open where a short slides, on average, one is made so that it
+/// slides again.
+const EVENTS_A_SLIDE: u32 = 8;
+
 /// A session from open with more events than this may fill its book up.
 const LONG: u32 = 2 * PLACES as u32;
 
@@ -524,10 +529,8 @@ impl Session {
                 return self.spoil_seldom(event, venue);
             }
         }
-        if self.market.has_firms() && self.rng.one_in(EVENTS_A_MEETING) {
-            if let Some(event) = meet_own(&mut self.rng, &self.market, venue) {
-                return event;
-            }
+        if let Some(event) = self.seldom(venue) {
+            return event;
         }
         let sound = self.market.event(&mut self.rng, venue);
         let nonsense_one_in = match self.kind {
@@ -540,6 +543,18 @@ impl Session {
         } else {
             sound
         }
+    }
+
+    /// At times an event that chance alone brings about too seldom.
+    fn seldom(&mut self, venue: &Venue) -> Option<Event> {
+        let (rng, market) = (&mut self.rng, &self.market);
+        if market.has_firms() && rng.one_in(EVENTS_A_MEETING) {
+            if let Some(event) = meet_own(rng, market, venue) {
+                return Some(event);
+            }
+        }
+        let slides = self.kind.is_from_open() && rng.one_in(EVENTS_A_SLIDE);
+        slides.then(|| slide_again(rng, market, venue)).flatten()
     }
 
     /// Of entries for a full book, some with one field that isn't sound.
