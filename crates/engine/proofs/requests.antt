@@ -10,4 +10,5 @@ pub mod FallingAgainLaws
 pub mod OwnerLaws
 pub mod FullBookLaws
 pub mod FullBookReachedLaws
+pub mod StampLaws
 pub mod SlidPriceLaws

@@ -5,6 +5,7 @@ pub mod Reached
 pub mod RoundTrips
 pub mod Reading
 pub mod Owners
+pub mod Stamps
 pub mod SlidPrices
 pub mod Examples
 pub mod Calls

@@ -1,24 +1,22 @@
 -- No. 9: the prices of a displayed short that was adjusted at its entry only fall, and stamps rise, over every list of events. Assumes nothing.
-use Prim.Native.Nat.{ℕ, _+_, _≤_, _<_, min, max}
+use Prim.Native.Nat.{ℕ, _+_, _≤_, _<_, max}
 use native.Mathlib.Omega.{arith}
 use native.Mathlib.Decide.{ℕ-discrete}
 use mathlib.Core.Path.{_≡_, refl, ap, sym, _∙_, subst}
 use mathlib.Core.Bool.{Bool, not}
-use mathlib.Core.List.{List, [], _++_, map, foldl-append, List·Memᴰ}
-use mathlib.Core.Logic.{inl, inr}
+use mathlib.Core.List.{List, [], map, foldl-append, List·Memᴰ}
 use mathlib.Core.Option.{some}
 use lib.Dec.{T, leb, ltb, eqb, leb→le, le→leb, eqb→eq, T-not}
 use Rattle.numbers.specs.Tests.{All}
-use Rattle.numbers.proofs.TestLaws.{by-test, and-T, T-and, eq→T, ne→T, pick-no, tests, all-map, all-both}
+use Rattle.numbers.proofs.TestLaws.{by-test, and-T, T-and, eq→T, ne→T, pick-no, tests, all-both}
 use Rattle.prices.specs.Prices.{highest, isStep, legal}
 use Rattle.book.specs.declared.Order.{Order}
 use Rattle.book.specs.rules.Orders.{without}
-use Rattle.book.specs.rules.Matching.{Execution, Happening, traded, withdrawn, execution, Meeting, trading, withdrawing, meeting}
+use Rattle.book.specs.rules.Matching.{Happening, traded, withdrawn, Meeting, meeting}
 use Rattle.book.specs.rules.Words.{isBook}
 use Rattle.book.proofs.definitions.OrderLaws.{Other, taken-all, all-taken, mem-taken, insert-taken, without-all, without-other}
 use Rattle.book.proofs.definitions.CounterpartyLaws.{Reached}
-use Rattle.book.proofs.definitions.MeetingLaws.{execution-by, trading-known, withdrawing-known, meeting-by}
-use Rattle.book.proofs.definitions.MatchingLaws.{afterTrade-all, meeting-all}
+use Rattle.book.proofs.definitions.MatchingLaws.{meeting-all}
 use Rattle.engine.specs.declared.Market.{Market}
 use Rattle.engine.specs.declared.Entry.{Entry}
 use Rattle.engine.specs.declared.Move.{Move}
@@ -33,116 +31,15 @@ use Rattle.engine.specs.steps.Steps.{moveInPass}
 use Rattle.engine.specs.claims.Account.{setAt}
 use Rattle.engine.specs.claims.Calls.{AppliedCall, Chain}
 use Rattle.engine.specs.claims.Reading.{Entered, readFrom}
-use Rattle.engine.specs.claims.SlidPrices.{PricesGiven, limitOfShort, noPrices, beforeReports, acceptedAt, repricedTo, Prices, startPrices, readPrice, readingPrices, pricesOf, Stamps, noStamps, noneWorks, giveStamp, tradeIn, readStamp, readingStamps, stampsOf, lastOf, Rising, SlidAtEntry, lastPrice, OnlyFall, NeverRises, WorkingIsLater, PricesFall, PricesOnlyFall, PricesFallInCalls, PricesOnlyFallInCalls, AdjustedIsAboveLimit}
+use Rattle.engine.specs.claims.SlidPrices.{PricesGiven, limitOfShort, noPrices, beforeReports, acceptedAt, repricedTo, Prices, startPrices, readPrice, readingPrices, pricesOf, SlidAtEntry, lastPrice, OnlyFall, NeverRises, PricesFall, PricesOnlyFall, PricesFallInCalls, PricesOnlyFallInCalls, AdjustedIsAboveLimit}
 use Rattle.engine.proofs.refinement.RefusalLaws.{EntryAllowed}
 use Rattle.engine.proofs.refinement.OpeningLaws.{opening-known, opened-book, opened-venue}
 use Rattle.engine.proofs.demand3.MarketLaws.{permittedNow-above}
 use Rattle.engine.proofs.demand3.TallyLaws.{setAt-same, setAt-other}
-use Rattle.engine.proofs.demand3.SoundLaws.{SoundBook, SoundWork, book-distinct, book-others, book-order, book-without, SoundVenue}
+use Rattle.engine.proofs.demand3.SoundLaws.{SoundBook, SoundWork, book-distinct, book-others, book-order, SoundVenue}
 use Rattle.engine.proofs.demand3.CallLaws.{callOf, fresh-run}
 use Rattle.engine.proofs.requests.AccountLaws.{Kept, run-reads, opened-reads, run-front}
-
--- Stamps
-
--- the column says what the record of an order says
-abbrev HasStamp : Stamps → Order → Type 0
-HasStamp c o = o.stamp ≡ c .stamp (o .id)
-
--- what is given so far, s last
-abbrev RisesTo : ℕ → Stamps → Type 0
-RisesTo s c = record { last : lastOf 0 (c .given) ≡ s; rising : Rising 0 (c .given); later : All WorkingIsLater (c .trades) }
-
--- wherever no order works
-record StampsAgree (n s : ℕ) (os : List Order) (c : Stamps) : Type 0 where
-  known : All (HasStamp c) os
-  rises : RisesTo s c
-
--- while w works: it has the last stamp, and all others have older ones
-abbrev Older : ℕ → Stamps → Order → Type 0
-Older s c o = HasStamp c o × (o.stamp < s)
-
-record StampsWork (n s : ℕ) (w : Order) (os : List Order) (c : Stamps) : Type 0 where
-  own : HasStamp c w
-  newest : w.stamp ≡ s
-  others : All (Older s c) os
-  working : c.working ≡ w.id
-  rises : RisesTo s c
-
-given-rises : (k s : ℕ) (c : Stamps) → RisesTo s c → RisesTo (s + 1) (giveStamp k (s + 1) c)
-given-rises k s c h = record { last = refl; rising = (omega (arith, h .last), h .rising); later = h .later }
-
--- an order w of any kind with the stamp s + 1, in a book without its id
-module _ {g n s : ℕ} (w : Order) (os : List Order) (c : Stamps) (e : w.stamp ≡ s + 1) (b : SoundBook g n s os) (new : All (Other (w .id)) os) (l : ℕ) (h : StampsAgree l s os c) where
-  stamp-works : (k : ℕ) → StampsWork k (s + 1) w os (giveStamp (w .id) (s + 1) c)
-  stamp-works k =
-      record {
-        own = e ∙ sym (setAt-same (w .id) (s + 1) (c .stamp));
-        newest = e;
-        others = all-both (λ x k z. (k .0 ∙ sym (setAt-other (w .id) (s + 1) (c .stamp) (x .id) z), k .1)) os older new;
-        working = refl;
-        rises = given-rises (w .id) s c (h .rises);
-      }
-    where
-      older : All (Older (s + 1) c) os
-      older = all-both (λ x k z. (k, omega (arith, z .works .last))) os (h .known) (b .orders)
-
-module _ {g n s : ℕ} (w o : Order) (os : List Order) (c : Stamps) (b : SoundWork g n s w os) (r : Reached w os (some o)) (i : StampsWork n s w os c) where
-  met : Older s c o
-  met = taken-all (Older s c) (mem-taken (r .0) (book-distinct (b .book))) (i .others) .0
-
-  -- the one that works has the later stamp
-  trade-later : (q : ℕ) → WorkingIsLater (tradeIn c (execution w o q))
-  trade-later q =
-      let l : c .stamp (o .id) < c .stamp (w .id) = omega (arith, met .0, met .1, i .own, i .newest) in
-      execution-by (λ (x : Execution). WorkingIsLater (tradeIn c x)) w o q (λ b. inl (sym (i .working), l)) (λ b. inr (sym (i .working), l))
-
-  trading-works : let x : Meeting = trading w o os in StampsWork n s (x .left) (x .orders) (readStamp c (happened (x .happening)))
-  trading-works =
-      let q : ℕ = min (w .shares) (o .shares) in
-      rw (trading-known w o os) record {
-        own = i .own;
-        newest = i .newest;
-        others = afterTrade-all q (r .0) (book-distinct (b .book)) (Older s c) (λ z p l h. h) (i .others);
-        working = i .working;
-        rises = record { last = i .rises .last; rising = i .rises .rising; later = (trade-later q, i .rises .later) };
-      }
-
-  withdrawing-works : let x : Meeting = withdrawing w o os in StampsWork n s (x .left) (x .orders) (readStamp c (happened (x .happening)))
-  withdrawing-works =
-      rw (withdrawing-known w o os) record {
-        own = i .own;
-        newest = i .newest;
-        others = without-all (Older s c) (o .id) os (i .others);
-        working = i .working;
-        rises = i .rises;
-      }
-
-  meeting-works : let x : Meeting = meeting w o os in StampsWork n s (x .left) (x .orders) (readStamp c (happened (x .happening)))
-  meeting-works =
-      meeting-by (λ (x : Meeting). StampsWork n s (x .left) (x .orders) (readStamp c (happened (x .happening)))) w o os withdrawing-works trading-works
-
-stamps-kept : Kept readingStamps StampsAgree StampsWork
-unfolding orderOf
-stamps-kept =
-    record {
-      begins = λ n s os c h. record { known = h .known; rises = h .rises };
-      enters = λ v x c a g h. stamp-works _ (v .orders) (noneWorks c) refl (g .book) (book-others (g .book) (a .place .newId)) (v .lastId) (record { known = h .known; rises = h .rises }) (x.entry.id);
-      reprices = λ {g} {n} m o os s p used c e i b h. stamp-works (atNewPrice p (s + 1) used o) (without (o .id) os) c refl (book-without b (o .id)) (without-other (o .id) os) n (record { known = without-all (HasStamp c) (o .id) os (h .known); rises = h .rises }) n;
-      meets = λ w o os c b r i. meeting-works w o os c b r i;
-      gone = λ n s w os c i. record { known = all-map (λ x k. k .0) os (i .others); rises = i .rises };
-      rests = λ n s w os c i. record { known = all-taken (HasStamp c) (insert-taken w os) (i .own) (all-map (λ x k. k .0) os (i .others)); rises = i .rises };
-      leaves = λ n s i os c h. record { known = without-all (HasStamp c) i os (h .known); rises = h .rises };
-      empties = λ n s os c h. record { known = tt; rises = h .rises };
-      cancelledTells = λ c i q cause l. refl;
-      startsTells = λ c. refl;
-      endedTells = λ c p. refl;
-    }
-
-opened-stamps : (s close : ℕ) (cs : List Call) → let r : Run = run (opened s close) cs in StampsAgree (r .venue .lastId) (r .venue .lastStamp) (r .venue .orders) (stampsOf (r .answered))
-opened-stamps s close cs =
-    opened-reads readingStamps StampsAgree StampsWork stamps-kept s close noStamps (record { known = tt; rises = record { last = refl; rising = tt; later = tt } }) cs
-
--- Prices
+use Rattle.engine.proofs.requests.StampLaws.{opened-stamps}
 
 -- where an order that is displayed and clear goes: down, not under its limit, and with slide once only if it wasn't used
 record MovesDown (o : Order) (p : ℕ) (used : Bool) : Type 0 where
@@ -250,8 +147,8 @@ module _ (then : Prices) where
           noneThen = λ j z. h .noneThen j (omega (arith, z, l));
         }
 
-  price-works : (n m s t : ℕ) (w : Order) (os : List Order) (g : PricesGiven) (c : Prices) → All (Other (w .id)) os → SaidOf g w → All (Knows c) os → ColumnAgrees m (setAt (w .id) g c) → PricesWork m t w os (setAt (w .id) g c)
-  price-works n m s t w os g c new k h d =
+  price-works : (n s : ℕ) (w : Order) (os : List Order) (g : PricesGiven) (c : Prices) → All (Other (w .id)) os → SaidOf g w → All (Knows c) os → ColumnAgrees n (setAt (w .id) g c) → PricesWork n s w os (setAt (w .id) g c)
+  price-works n s w os g c new k h d =
       record { own = subst (λ (y : PricesGiven). SaidOf y w) (sym (setAt-same (w .id) g c)) k; others = set-others (w .id) g c os new h; column = d }
 
 -- an entry
@@ -307,7 +204,7 @@ module _ (then : Prices) where
       let m : Market = v.market in
       let t : ℕ = v.lastStamp + 1 in
       let begun : ColumnAgrees then i d = set-column then i (beforeReports e) c (v .lastId) i (omega (arith, l)) (omega arith) (λ f. absurd (omega (arith, f .2))) (new-lower i (beforeReports e) l (h .column)) (h .column) in
-      price-works then (v .lastId) i (v .lastStamp) t _ (v .orders) (acceptedAt p (d i)) d new
+      price-works then i t _ (v .orders) (acceptedAt p (d i)) d new
       (subst (λ (y : PricesGiven). SaidOf (acceptedAt p y) (orderOf m t (x .owner) e)) same (entry-said m (g .market .step) t (x .owner) e))
       (set-others then i (beforeReports e) c (v .orders) new (h .known))
       (set-column then i (acceptedAt p (d i)) d i i (omega arith) (omega arith) (subst (λ (y : PricesGiven). FallsIfSlid (acceptedAt p y)) same (entry-falls m (g .market .step) t (x .owner) e)) (new-lower i (acceptedAt p (d i)) l (h .column)) begun)
@@ -346,7 +243,7 @@ prices-reprice then {g} {n} m o os s p used c e i b h =
     let k : Knows c o = taken-all (Knows c) (mem-taken i (book-distinct b)) (h .known) .0 in
     let y : SlidAtEntry (c (o .id)) → MovesDown o p used = λ f. subst (Goes o) e (move-goes m o (sym (k .show) ∙ f .1) (k .slid f .clear)) in
     let given : PricesGiven = repricedTo p (c (o .id)) in
-    price-works then n n s (s + 1) (atNewPrice p (s + 1) used o) (without (o .id) os) given c (without-other (o .id) os)
+    price-works then n (s + 1) (atNewPrice p (s + 1) used o) (without (o .id) os) given c (without-other (o .id) os)
     (repriced-said o p (s + 1) used (c (o .id)) k y)
     (without-all (Knows c) (o .id) os (h .known))
     (set-column then (o .id) given c n n (omega arith) (book-order b i .works .id) (repriced-falls o p (s + 1) used (c (o .id)) k y (h .column .falls (o .id))) (repriced-lower o p (s + 1) used (c (o .id)) k y (then (o .id)) (h .column .lower (o .id))) (h .column))

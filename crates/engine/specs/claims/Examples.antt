@@ -20,7 +20,8 @@ use Rattle.engine.specs.rules.Refusals.{leastBuffer}
 use Rattle.engine.specs.rules.Run.{Call, Answered, step, run}
 use Rattle.engine.specs.rules.Fill.{wouldFill}
 use Rattle.engine.specs.claims.Owners.{Owners, ownersOf}
-use Rattle.engine.specs.claims.SlidPrices.{PricesGiven, pricesOf, StampedTrade, stampsOf, OnlyFallFor}
+use Rattle.engine.specs.claims.Stamps.{StampedTrade, stampsOf}
+use Rattle.engine.specs.claims.SlidPrices.{PricesGiven, pricesOf, OnlyFallFor}
 
 -- "Shown together by one check of the definitions"
 abbrev pub twelveSums : List Bool

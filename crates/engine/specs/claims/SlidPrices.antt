@@ -1,9 +1,8 @@
--- Document 02, No. 9, prices of a slid order only fall, as claims: an account of prices and one of stamps, over every list of events. No definition of either account
--- names the venue. Assumes nothing.
+-- Document 02, No. 9, prices of a slid order only fall, as claims: an account of prices, and with that of stamps the law over every list of events. No definition of the
+-- account names the venue. Assumes nothing.
 use Prim.Native.Nat.{ℕ, _≤_, _<_}
 use mathlib.Core.Path.{_≡_}
 use mathlib.Core.List.{List, [], _∷_, _++_, map}
-use mathlib.Core.Logic.{_⊎_}
 use mathlib.Core.Option.{Option, none, some}
 use lib.Dec.{T, ltb, eqb}
 use lib.ListN.{length}
@@ -11,7 +10,6 @@ use Rattle.numbers.specs.Tests.{pick, All}
 use Rattle.numbers.specs.Answers.{gives}
 use Rattle.prices.specs.Prices.{isStep, legal}
 use Rattle.book.specs.declared.Order.{Order}
-use Rattle.book.specs.rules.Matching.{Execution}
 use Rattle.book.specs.rules.Words.{resting}
 use Rattle.engine.specs.declared.Market.{Market}
 use Rattle.engine.specs.declared.Entry.{Entry}
@@ -23,6 +21,7 @@ use Rattle.engine.specs.rules.Layout.{openedWords}
 use Rattle.engine.specs.claims.Account.{setAt}
 use Rattle.engine.specs.claims.Calls.{AppliedCall, Chain, answeredOf}
 use Rattle.engine.specs.claims.Reading.{Entered, Reading, readFrom}
+use Rattle.engine.specs.claims.Stamps.{stampsOf, lastOf, Rising, WorkingIsLater}
 
 -- The account of prices
 
@@ -75,67 +74,12 @@ readingPrices = record { begin = startPrices; read = readPrice }
 abbrev pub pricesOf : List Answered → Prices
 pricesOf xs = readFrom readingPrices (λ k. noPrices) xs
 
--- The account of stamps
-
--- a report 2, with the stamps that its buyer and its seller have at that moment, and the id of the working order
-pub record StampedTrade : Type 0 where
-  pub execution : Execution
-  pub buyerStamp : ℕ
-  pub sellerStamp : ℕ
-  pub working : ℕ
-
--- stamp is a column: at k the stamp last given to the order with id k, 0 where there is none. working is the id of the working order, 0 where no order of the event has
--- worked yet. given are the stamps of reports 1 and 4; they and the trades have the last one first
-pub record Stamps : Type 0 where
-  pub stamp : ℕ → ℕ
-  pub working : ℕ
-  pub given : List ℕ
-  pub trades : List StampedTrade
-
-abbrev pub noStamps : Stamps
-noStamps = record { stamp = λ k. 0; working = 0; given = []; trades = [] }
-
--- an accepted event begins
-abbrev pub noneWorks : Stamps → Stamps
-noneWorks c = record { stamp = c.stamp; working = 0; given = c.given; trades = c.trades }
-
--- "Report 1 or 4 .. that order is now the working one"
-abbrev pub giveStamp : ℕ → ℕ → Stamps → Stamps
-giveStamp k s c = record { stamp = setAt k s (c .stamp); working = k; given = s ∷ c.given; trades = c.trades }
-
-abbrev pub tradeIn : Stamps → Execution → StampedTrade
-tradeIn c x = record { execution = x; buyerStamp = c .stamp (x .buyer); sellerStamp = c .stamp (x .seller); working = c.working }
-
-abbrev pub readStamp : Stamps → Report → Stamps
-readStamp c (accepted k s p) = giveStamp k s c
-readStamp c (executed x) = record { stamp = c.stamp; working = c.working; given = c.given; trades = tradeIn c x ∷ c.trades }
-readStamp c (cancelled k q z) = c
-readStamp c (repriced k p s) = giveStamp k s c
-readStamp c restrictionStarts = c
-readStamp c (dayEnded p) = c
-
-abbrev pub readingStamps : Reading Stamps
-readingStamps = record { begin = λ x c. noneWorks c; read = readStamp }
-
-abbrev pub stampsOf : List Answered → Stamps
-stampsOf xs = readFrom readingStamps noStamps xs
-
 -- The law
-
--- the number given last, of a list that has the last one first; p where there is none
-abbrev pub lastOf : ℕ → List ℕ → ℕ
-lastOf p [] = p
-lastOf p (q ∷ qs) = q
 
 -- each is below the one given before it, and the one given first below p
 abbrev pub Falling : ℕ → List ℕ → Type 0
 Falling p [] = Unit {0}
 Falling p (q ∷ qs) = (q < lastOf p qs) × Falling p qs
-
--- each is above the one given before it, and the one given first above p
-abbrev pub Rising : ℕ → List ℕ → Type 0
-Rising p [] = Unit {0}
-Rising p (q ∷ qs) = (lastOf p qs < q) × Rising p qs
 
 -- "a displayed short order adjusted at its entry", read from the reports (F9.1): it was accepted at a price above its limit
 abbrev pub SlidAtEntry : PricesGiven → Type 0
@@ -163,11 +107,6 @@ OnlyFallFor These xs = (k : ℕ) → These (pricesOf xs k) → OnlyFall (pricesO
 -- it "never has a rising price": its price after the list isn't above its price after a front ys of the list
 abbrev pub NeverRises : List Answered → Type 0
 NeverRises xs = (ys zs : List Answered) → xs ≡ ys ++ zs → (k : ℕ) → SlidAtEntry (pricesOf ys k) → lastPrice (pricesOf xs k) ≤ lastPrice (pricesOf ys k)
-
--- for No. 12, whose taker has "The later stamp in an execution": one of the two orders is the working one, and its stamp is later than the other's
-abbrev pub WorkingIsLater : StampedTrade → Type 0
-WorkingIsLater t =
-    ((t.execution.buyer ≡ t.working) × (t.sellerStamp < t.buyerStamp)) ⊎ ((t.execution.seller ≡ t.working) × (t.buyerStamp < t.sellerStamp))
 
 -- a resting order and what the accounts say of it: it has the price and the stamp last given, and is the order of its entry
 pub record Recorded (g : PricesGiven) (s : ℕ) (o : Order) : Type 0 where
