@@ -35,11 +35,14 @@ use Rattle.engine.proofs.requests.PassLaws.{AfterReading, thePass-reads
 
 -- I is claimed of the last id, the last stamp, the book and the account wherever no order works; W of these and the working order while one does
 module _ {A : Type 0} (r : Reading A) (I : ℕ → ℕ → List Order → A → Type 0) (W : ℕ → ℕ → Order → List Order → A → Type 0) where
+  abbrev At : Venue → A → Type 0
+  At v c = I (v .lastId) (v .lastStamp) (v .orders) c
+
   pub record Kept : Type 0 where
     -- an event that is no entry begins
     pub begins : (n s : ℕ) (os : List Order) (c : A) → I n s os c → I n s os (r .begin none c)
     -- an entry of either kind, and its report 1
-    pub enters : (v : Venue) (x : Entered) (c : A) → EntryAllowed v (x .entry) → SoundVenue v → I (v .lastId) (v .lastStamp) (v .orders) c → let o : Order = orderOf (v .market) (v .lastStamp + 1) (x .owner) (x .entry) in W (x.entry.id) (v .lastStamp + 1) o (v .orders) (r .read (r .begin (some x) c) (accepted (o .id) (o .stamp) (o .price)))
+    pub enters : (v : Venue) (x : Entered) (c : A) → EntryAllowed v (x .entry) → SoundVenue v → At v c → let o : Order = orderOf (v .market) (v .lastStamp + 1) (x .owner) (x .entry) in W (x.entry.id) (v .lastStamp + 1) o (v .orders) (r .read (r .begin (some x) c) (accepted (o .id) (o .stamp) (o .price)))
     -- an order that the pass re-prices, and its report 4
     pub reprices : {g n : ℕ} (m : Market) (o : Order) (os : List Order) (s p : ℕ) (used : Bool) (c : A) → moveInPass m o ≡ Reprice p used → List·Memᴰ o os → SoundBook g n s os → I n s os c → W n (s + 1) (atNewPrice p (s + 1) used o) (without (o .id) os) (r .read c (repriced (o .id) p (s + 1)))
     -- a meeting of the working order, and its report 2, or 3 with cause 5
@@ -47,13 +50,13 @@ module _ {A : Type 0} (r : Reading A) (I : ℕ → ℕ → List Order → A → 
     -- the working order is gone, or rests
     pub gone : (n s : ℕ) (w : Order) (os : List Order) (c : A) → W n s w os c → I n s os c
     pub rests : (n s : ℕ) (w : Order) (os : List Order) (c : A) → W n s w os c → I n s (insert w os) c
-    -- orders leave
+    -- orders leave the book
     pub leaves : (n s i : ℕ) (os : List Order) (c : A) → I n s os c → I n s (without i os) c
     pub empties : (n s : ℕ) (os : List Order) (c : A) → I n s os c → I n s [] c
-    -- reports that tell it nothing: 3 with another cause than 5, 5 and 6
-    pub cancelledTells : (c : A) (i q cause : ℕ) → cause ≤ 4 → r .read c (cancelled i q cause) ≡ c
-    pub startsTells : (c : A) → r .read c restrictionStarts ≡ c
-    pub endedTells : (c : A) (p : ℕ) → r .read c (dayEnded p) ≡ c
+    -- reports that change nothing in it: 3 with another cause than 5, 5 and 6
+    pub cancelledUnread : (c : A) (i q cause : ℕ) → cause ≤ 4 → r .read c (cancelled i q cause) ≡ c
+    pub startUnread : (c : A) → r .read c restrictionStarts ≡ c
+    pub endUnread : (c : A) (p : ℕ) → r .read c (dayEnded p) ≡ c
 
   module _ (k : Kept) where
     -- an order works
@@ -61,7 +64,7 @@ module _ {A : Type 0} (r : Reading A) (I : ℕ → ℕ → List Order → A → 
     remainder-reads : (n s : ℕ) (x : Remainder) (w : Order) (os : List Order) (c : A) → RemainderOf w x → W n s w os c → I n s ((afterRemainder x w os) .orders) (foldl (r .read) c ((afterRemainder x w os) .reports))
     unfolding afterRemainder
     remainder-reads n s Filled w os c f h = k .gone n s w os c h
-    remainder-reads n s (Cancelled cause) w os c f h = rw (k .cancelledTells c (w .id) (w .shares) cause (omega (arith, f .1))) (k .gone n s w os c h)
+    remainder-reads n s (Cancelled cause) w os c f h = rw (k .cancelledUnread c (w .id) (w .shares) cause (omega (arith, f .1))) (k .gone n s w os c h)
     remainder-reads n s Rests w os c f h = k .rests n s w os c h
 
     work-reads : {g n s : ℕ} (w : Order) (os : List Order) (c : A) → SoundWork g n s w os → W n s w os c → I n s ((work w os) .orders) (foldl (r .read) c ((work w os) .reports))
@@ -73,7 +76,7 @@ module _ {A : Type 0} (r : Reading A) (I : ℕ → ℕ → List Order → A → 
 
     -- events
 
-    entry-reads : (v : Venue) (x : Entered) (c : A) → EntryAllowed v (x .entry) → x.owner ≤ mostOwner → SoundVenue v → I (v .lastId) (v .lastStamp) (v .orders) c → AfterReading (r .read) (I (x.entry.id)) (effectOfEntry (v .market) v (x .owner) (x .entry)) (r .begin (some x) c)
+    entry-reads : (v : Venue) (x : Entered) (c : A) → EntryAllowed v (x .entry) → x.owner ≤ mostOwner → SoundVenue v → At v c → AfterReading (r .read) (I (x.entry.id)) (effectOfEntry (v .market) v (x .owner) (x .entry)) (r .begin (some x) c)
     unfolding effectOfEntry entering orderOf
     entry-reads v x c a l g h = work-reads _ (v .orders) _ (orderOf-sound v (x .entry) (x .owner) a l g) (k .enters v x c a g h)
 
@@ -83,11 +86,11 @@ module _ {A : Type 0} (r : Reading A) (I : ℕ → ℕ → List Order → A → 
       where
         go : (y : Move) → moveInPass m o ≡ y → AfterReading (r .read) (I n) (afterMove y o os s) c
         go Stay e = h
-        go Cancel e = rw (k .cancelledTells c (o .id) (o .shares) 3 (omega arith)) (k .leaves n s (o .id) os c h)
+        go Cancel e = rw (k .cancelledUnread c (o .id) (o .shares) 3 (omega arith)) (k .leaves n s (o .id) os c h)
         go (Reprice p used) e =
             work-reads (atNewPrice p (s + 1) used o) (without (o .id) os) _ (atNewPrice-sound p used (rw e at (moveOf-sound m t o (book-order b i .works .fields))) i b) (k .reprices m o os s p used c e i b h)
 
-    module _ (m : Market) (v : Venue) (c : A) (t : HasPermitted m) (b : SoundBook (m .step) (v .lastId) (v .lastStamp) (v .orders)) (h : I (v .lastId) (v .lastStamp) (v .orders) c) where
+    module _ (m : Market) (v : Venue) (c : A) (t : HasPermitted m) (b : SoundBook (m .step) (v .lastId) (v .lastStamp) (v .orders)) (h : At v c) where
       pass-reads : AfterReading (r .read) (I (v .lastId)) (thePass m v) (r .begin none c)
       pass-reads = thePass-reads m v t b (r .read) (I (v .lastId)) (turn-reads m t) (r .begin none c) (k .begins (v .lastId) (v .lastStamp) (v .orders) c h)
 
@@ -95,16 +98,16 @@ module _ {A : Type 0} (r : Reading A) (I : ℕ → ℕ → List Order → A → 
       unfolding restrictionReport
       tape-reads =
           let p : Effect = thePass m v in
-          by-test (λ (rs : List Report). I (v .lastId) (p .stamp) (p .orders) (foldl (r .read) (r .begin none c) (rs ++ p.reports))) _ (λ x. pass-reads) (λ x. rw (foldl, k .startsTells (r .begin none c)) pass-reads)
+          by-test (λ (rs : List Report). I (v .lastId) (p .stamp) (p .orders) (foldl (r .read) (r .begin none c) (rs ++ p.reports))) _ (λ x. pass-reads) (λ x. rw (foldl, k .startUnread (r .begin none c)) pass-reads)
 
     all-cancelled : (c : A) (p : ℕ) (os : List Order) → foldl (r .read) c (map cancelledAtEnd os ++ dayEnded p ∷ []) ≡ c
-    all-cancelled c p [] = k .endedTells c p
-    all-cancelled c p (o ∷ os) = rw (foldl, k .cancelledTells c (o .id) (o .shares) 4 (omega arith)) (all-cancelled c p os)
+    all-cancelled c p [] = k .endUnread c p
+    all-cancelled c p (o ∷ os) = rw (foldl, k .cancelledUnread c (o .id) (o .shares) 4 (omega arith)) (all-cancelled c p os)
 
-    effect-reads : (v : Venue) (e : Event) (c : A) → Allowed v e → SoundVenue v → I (v .lastId) (v .lastStamp) (v .orders) c → AfterReading (r .read) (I (lastIdAfter v e)) (effectOf (marketAfter e (v .market)) v e) (r .begin (enteredBy e) c)
+    effect-reads : (v : Venue) (e : Event) (c : A) → Allowed v e → SoundVenue v → At v c → AfterReading (r .read) (I (lastIdAfter v e)) (effectOf (marketAfter e (v .market)) v e) (r .begin (enteredBy e) c)
     unfolding effectOf effectOfCancel effectOfDayEnd
     effect-reads v (entry e) c a g h = entry-reads v (record { entry = e; owner = 0 }) c a (omega arith) g h
-    effect-reads v (cancel i) c a g h = rw (k .cancelledTells (r .begin none c) i _ 1 (omega arith)) (k .leaves (v .lastId) (v .lastStamp) i (v .orders) _ (k .begins (v .lastId) (v .lastStamp) (v .orders) c h))
+    effect-reads v (cancel i) c a g h = rw (k .cancelledUnread (r .begin none c) i _ 1 (omega arith)) (k .leaves (v .lastId) (v .lastStamp) i (v .orders) _ (k .begins (v .lastId) (v .lastStamp) (v .orders) c h))
     effect-reads v (bid b) c a g h = pass-reads _ v c (g .market .step, a) (g .book) h
     effect-reads v (tape p) c a g h = tape-reads _ v c (market-permits (g .market)) (g .book) h
     effect-reads v (dayEnd p) c a g h = rw (all-cancelled (r .begin none c) _ (v .orders)) (k .empties (v .lastId) (v .lastStamp) (v .orders) _ (k .begins (v .lastId) (v .lastStamp) (v .orders) c h))
@@ -112,17 +115,17 @@ module _ {A : Type 0} (r : Reading A) (I : ℕ → ℕ → List Order → A → 
 
     -- every list
 
-    unless-reads : (x : Option ℕ) (v : Venue) (c : A) (e : Event) (b : ℕ) → Unless x (NotRefused v e b) → I (v .lastId) (v .lastStamp) (v .orders) c → let w : Venue = stepUnless x v e .venue in I (w .lastId) (w .lastStamp) (w .orders) (afterAnswer r c e (stepUnless x v e .answer))
+    unless-reads : (x : Option ℕ) (v : Venue) (c : A) (e : Event) (b : ℕ) → Unless x (NotRefused v e b) → At v c → At (stepUnless x v e .venue) (afterAnswer r c e (stepUnless x v e .answer))
     unfolding stepUnless
     unless-reads (some n) v c e b u h = h
     unless-reads none v c e b u h = effect-reads v e c (u .allowed) (sound-venue v (u .sound)) h
 
-    pub run-reads : (cs : List Call) (v : Venue) (c : A) → I (v .lastId) (v .lastStamp) (v .orders) c → let x : Run = run v cs in I (x .venue .lastId) (x .venue .lastStamp) (x .venue .orders) (readFrom r c (x .answered))
+    pub run-reads : (cs : List Call) (v : Venue) (c : A) → At v c → At (run v cs .venue) (readFrom r c (run v cs .answered))
     unfolding run step
     run-reads [] v c h = h
     run-reads (x ∷ xs) v c h = run-reads xs _ _ (unless-reads _ v c (x .event) (x .buffer) (refusal-known v (x .event) (x .buffer)) h)
 
-    pub opened-reads : (s close : ℕ) (c : A) → I 0 0 [] c → (cs : List Call) → let x : Run = run (opened s close) cs in I (x .venue .lastId) (x .venue .lastStamp) (x .venue .orders) (readFrom r c (x .answered))
+    pub opened-reads : (s close : ℕ) (c : A) → I 0 0 [] c → (cs : List Call) → let x : Run = run (opened s close) cs in At (x .venue) (readFrom r c (x .answered))
     unfolding opened
     opened-reads s close c h cs = run-reads cs (opened s close) c h
 

@@ -54,7 +54,7 @@ use Rattle.engine.proofs.refinement.OpeningLaws.{opening-known, opened-
 use Rattle.engine.proofs.demand3.MarketLaws.{HasPermitted}
 use Rattle.engine.proofs.demand3.TallyLaws.{setAt-same, setAt-other}
 use Rattle.engine.proofs.demand3.WorkingKeeps.{work-all}
-use Rattle.engine.proofs.demand3.SoundLaws.{SoundBook, book-distinct, book-others, passOne-sound, SoundVenue, sound-venue, market-permits}
+use Rattle.engine.proofs.demand3.SoundLaws.{SoundBook, SoundWork, book-distinct, book-others, passOne-sound, SoundVenue, sound-venue, market-permits}
 use Rattle.engine.proofs.demand3.CallLaws.{accepted-call, Readable, step-readable, bytes-read, callOf, fresh-run}
 use Rattle.engine.proofs.requests.PassLaws.{afterMove-all, thePass-all}
 use Rattle.engine.proofs.requests.AccountLaws.{Kept, opened-reads}
@@ -85,16 +85,17 @@ readHappening c x = readOwners c (happened x)
 
 -- while w works
 record Works (w : Order) (os : List Order) (c : Owners) : Type 0 where
-  distinct : Distinct os
   own : Knows c w
-  apart-ids : All (Other (w .id)) os
   others : All (Knows c) os
   working : c.working ≡ w.id
   apart : FirmsApart c
 
-module _ (w o : Order) (os : List Order) (c : Owners) (r : Reached w os (some o)) (i : Works w os c) where
+module _ {g n s : ℕ} (w o : Order) (os : List Order) (c : Owners) (b : SoundWork g n s w os) (r : Reached w os (some o)) (i : Works w os c) where
+  distinct : Distinct os
+  distinct = book-distinct (b .book)
+
   met : Knows c o
-  met = taken-all (Knows c) (mem-taken (r .0) (i .distinct)) (i .others) .0
+  met = taken-all (Knows c) (mem-taken (r .0) distinct) (i .others) .0
 
   execution-apart : (q : ℕ) → T (not (sameOwner w o)) → FirmsApart (readHappening c (traded (execution w o q)))
   execution-apart q t =
@@ -110,10 +111,8 @@ module _ (w o : Order) (os : List Order) (c : Owners) (r : Reached w os (some o)
   trading-works t =
       let q : ℕ = min (w .shares) (o .shares) in
       rw (trading-known w o os) record {
-        distinct = afterTrade-differ q (r .0) (i .distinct) idOf refl (i .distinct);
         own = i .own;
-        apart-ids = afterTrade-all q (r .0) (i .distinct) (Other (w .id)) (λ z s l h. h) (i .apart-ids);
-        others = afterTrade-all q (r .0) (i .distinct) (Knows c) (λ z s l h. h) (i .others);
+        others = afterTrade-all q (r .0) distinct (Knows c) (λ z s l h. h) (i .others);
         working = i .working;
         apart = execution-apart q t;
       }
@@ -123,11 +122,9 @@ module _ (w o : Order) (os : List Order) (c : Owners) (r : Reached w os (some o)
   withdrawing-works t =
       let f = one-firm w o t in
       let shown : w.owner ≡ c .owner (c .working) = i .own ∙ ap (c .owner) (sym (i .working)) in
-      let other : Other (w .id) o = taken-all (Other (w .id)) (mem-taken (r .0) (i .distinct)) (i .apart-ids) .0 in
+      let other : Other (w .id) o = taken-all (Other (w .id)) (mem-taken (r .0) distinct) (b .newId) .0 in
       rw (withdrawing-known w o os) record {
-        distinct = without-differ idOf (o .id) os (i .distinct);
         own = i .own;
-        apart-ids = without-all (Other (w .id)) (o .id) os (i .apart-ids);
         others = without-all (Knows c) (o .id) os (i .others);
         working = i .working;
         apart = record { trades = i .apart .trades; withdrawals = ((λ e. other (e ∙ i .working), omega (arith, f .0, shown), sym shown ∙ f .1 ∙ met), i .apart .withdrawals) };
@@ -149,12 +146,9 @@ AgreesAt n s os c = Agrees os c
 abbrev WorksAt : ℕ → ℕ → Order → List Order → Owners → Type 0
 WorksAt n s w os c = Works w os c
 
--- the beginning of an event with a column f of owners
-abbrev begun : (ℕ → ℕ) → Owners → Owners
-begun f c = record { owner = f; working = 0; trades = c.trades; withdrawals = c.withdrawals }
-
-begun-agrees : {os : List Order} {c : Owners} → Agrees os c → Agrees os (begun (c .owner) c)
-begun-agrees h = record { known = h .known; apart = record { trades = h .apart .trades; withdrawals = h .apart .withdrawals } }
+-- claims of what was read hold of the beginning of the next event, and of the next working order
+apart-still : {c : Owners} → FirmsApart c → (f : ℕ → ℕ) (k : ℕ) → FirmsApart (record { owner = f; working = k; trades = c.trades; withdrawals = c.withdrawals })
+apart-still h f k = record { trades = h .trades; withdrawals = h .withdrawals }
 
 enters-works : (v : Venue) (x : Entered) (c : Owners) → EntryAllowed v (x .entry) → SoundVenue v → Agrees (v .orders) c → Works (orderOf (v .market) (v .lastStamp + 1) (x .owner) (x .entry)) (v .orders) (worksNow (x.entry.id) (ownersAfter (some x) c))
 unfolding orderOf
@@ -162,40 +156,36 @@ enters-works v x c a g h =
     let i : ℕ = x.entry.id in
     let new : All (Other i) (v .orders) = book-others (g .book) (a .place .newId) in
     record {
-      distinct = book-distinct (g .book);
       own = sym (setAt-same i (x .owner) (c .owner));
-      apart-ids = new;
       others = all-both (λ y k z. k ∙ sym (setAt-other i (x .owner) (c .owner) (y .id) z)) (v .orders) (h .known) new;
       working = refl;
-      apart = record { trades = h .apart .trades; withdrawals = h .apart .withdrawals };
+      apart = apart-still (h .apart) _ i;
     }
 
 repriced-works : (o : Order) (os : List Order) (s p : ℕ) (used : Bool) (c : Owners) → List·Memᴰ o os → Distinct os → Agrees os c → Works (atNewPrice p (s + 1) used o) (without (o .id) os) (worksNow (o .id) c)
 repriced-works o os s p used c m d h =
     record {
-      distinct = without-differ idOf (o .id) os d;
       own = taken-all (Knows c) (mem-taken m d) (h .known) .0;
-      apart-ids = without-other (o .id) os;
       others = without-all (Knows c) (o .id) os (h .known);
       working = refl;
-      apart = record { trades = h .apart .trades; withdrawals = h .apart .withdrawals };
+      apart = apart-still (h .apart) (c .owner) (o .id);
     }
 
 owners-kept : Kept readingOwners AgreesAt WorksAt
 unfolding orderOf
 owners-kept =
     record {
-      begins = λ n s os c h. begun-agrees h;
+      begins = λ n s os c h. record { known = h .known; apart = apart-still (h .apart) (c .owner) 0 };
       enters = enters-works;
       reprices = λ m o os s p used c e i b h. repriced-works o os s p used c i (book-distinct b) h;
-      meets = λ w o os c b r i. meeting-works w o os c r i;
+      meets = meeting-works;
       gone = λ n s w os c i. record { known = i .others; apart = i .apart };
       rests = λ n s w os c i. record { known = all-taken (Knows c) (insert-taken w os) (i .own) (i .others); apart = i .apart };
       leaves = λ n s i os c h. record { known = without-all (Knows c) i os (h .known); apart = h .apart };
       empties = λ n s os c h. record { known = tt; apart = h .apart };
-      cancelledTells = λ c i q cause l. pick-no (eqb cause 5) _ _ (ne→T cause 5 (λ e. omega (arith, l)));
-      startsTells = λ c. refl;
-      endedTells = λ c p. refl;
+      cancelledUnread = λ c i q cause l. pick-no (eqb cause 5) _ _ (ne→T cause 5 (λ e. omega (arith, l)));
+      startUnread = λ c. refl;
+      endUnread = λ c p. refl;
     }
 
 opened-agrees : (s close : ℕ) (cs : List Call) → let r : Run = run (opened s close) cs in Agrees (r .venue .orders) (ownersOf (r .answered))

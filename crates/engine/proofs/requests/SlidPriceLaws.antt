@@ -97,7 +97,7 @@ SaidOf g o =
 abbrev Knows : Prices → Order → Type 0
 Knows c o = SaidOf (c (o .id)) o
 
--- what is known of each id, now and since a moment at which g was said of it
+-- of each id: its prices now, and against those, g, that it had after a front of the list
 abbrev FallsIfSlid : PricesGiven → Type 0
 FallsIfSlid g = SlidAtEntry g → OnlyFall g
 
@@ -108,7 +108,7 @@ NotAbove g now = SlidAtEntry g → SlidAtEntry now × (lastPrice now ≤ lastPri
 abbrev NoneAbove : ℕ → Prices → Type 0
 NoneAbove n c = (k : ℕ) → n < k → c k ≡ noPrices
 
--- at the moment the column was then
+-- `then` is the column after a front of the list
 module _ (then : Prices) where
   record ColumnAgrees (n : ℕ) (c : Prices) : Type 0 where
     falls : (k : ℕ) → FallsIfSlid (c k)
@@ -125,7 +125,7 @@ module _ (then : Prices) where
     others : All (Knows c) os
     column : ColumnAgrees n c
 
-  -- one place of the column changes, which is in a book without that id
+  -- the place k of the column changes; no order of the book has the id k
   module _ (k : ℕ) (g : PricesGiven) (c : Prices) where
     set-others : (os : List Order) → All (Other k) os → All (Knows c) os → All (Knows (setAt k g c)) os
     set-others = all-both (λ x z h. subst (λ (y : PricesGiven). SaidOf y x) (sym (setAt-other k g c (x .id) z)) h)
@@ -250,14 +250,14 @@ prices-reprice then {g} {n} m o os s p used c e i b h =
 
 -- a meeting tells it nothing
 
-happened-tells : (c : Prices) (x : Happening) → readPrice c (happened x) ≡ c
-happened-tells c (traded x) = refl
-happened-tells c (withdrawn i q) = refl
+happened-unread : (c : Prices) (x : Happening) → readPrice c (happened x) ≡ c
+happened-unread c (traded x) = refl
+happened-unread c (withdrawn i q) = refl
 
 prices-meet : (then : Prices) {g n s : ℕ} (w o : Order) (os : List Order) (c : Prices) → SoundWork g n s w os → Reached w os (some o) → PricesWork then n s w os c → let x : Meeting = meeting w o os in PricesWork then n s (x .left) (x .orders) (readPrice c (happened (x .happening)))
 prices-meet then w o os c b r i =
     let z = meeting-all (Knows c) (λ x q h. h) w o os (r .0) (book-distinct (b .book)) (i .own) (i .others) in
-    rw (happened-tells c (meeting w o os .happening)) (record { own = z .0; others = z .1; column = i .column })
+    rw (happened-unread c (meeting w o os .happening)) (record { own = z .0; others = z .1; column = i .column })
 
 prices-kept : (then : Prices) → Kept readingPrices (PricesAgree then) (PricesWork then)
 prices-kept then =
@@ -270,9 +270,9 @@ prices-kept then =
       rests = λ n s w os c i. record { known = all-taken (Knows c) (insert-taken w os) (i .own) (i .others); column = i .column };
       leaves = λ n s i os c h. record { known = without-all (Knows c) i os (h .known); column = h .column };
       empties = λ n s os c h. record { known = tt; column = h .column };
-      cancelledTells = λ c i q cause l. refl;
-      startsTells = λ c. refl;
-      endedTells = λ c p. refl;
+      cancelledUnread = λ c i q cause l. refl;
+      startUnread = λ c. refl;
+      endUnread = λ c p. refl;
     }
 
 -- Every list
@@ -297,7 +297,7 @@ never-rises s close cs ys zs e k f =
     let g = run-front cs (opened s close) ys zs e in
     let rest : List Answered = run (run (opened s close) (g .first) .venue) (g .then) .answered in
     let h = subst (λ (l : List Answered). NotAbove (pricesOf l k) (readFrom readingPrices (pricesOf l) rest k)) (sym (g .front)) (further-lower s close (g .first) (g .then) k) in
-    rw (e, foldl-append) (subst (λ (l : List Answered). NotAbove (pricesOf ys k) (readFrom readingPrices (pricesOf ys) l k)) (sym (g .behind)) h f .1)
+    rw (e, foldl-append) (subst (λ (l : List Answered). NotAbove (pricesOf ys k) (readFrom readingPrices (pricesOf ys) l k)) (sym (g .behind)) h f)
 
 opened-fall : (s close : ℕ) (cs : List Call) → let r : Run = run (opened s close) cs in PricesFall (r .answered) (r .venue .orders)
 opened-fall s close cs =

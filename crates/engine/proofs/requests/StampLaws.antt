@@ -2,7 +2,7 @@
 use Prim.Native.Nat.{ℕ, _+_, _<_, min}
 use native.Mathlib.Omega.{arith}
 use mathlib.Core.Path.{_≡_, refl, sym, _∙_}
-use mathlib.Core.List.{List, []}
+use mathlib.Core.List.{List}
 use mathlib.Core.Logic.{inl, inr}
 use mathlib.Core.Option.{some}
 use Rattle.numbers.specs.Tests.{All}
@@ -112,9 +112,9 @@ stamps-kept =
       rests = λ n s w os c i. record { known = all-taken (HasStamp c) (insert-taken w os) (i .own) (all-map (λ x k. k .0) os (i .others)); rises = i .rises };
       leaves = λ n s i os c h. record { known = without-all (HasStamp c) i os (h .known); rises = h .rises };
       empties = λ n s os c h. record { known = tt; rises = h .rises };
-      cancelledTells = λ c i q cause l. refl;
-      startsTells = λ c. refl;
-      endedTells = λ c p. refl;
+      cancelledUnread = λ c i q cause l. refl;
+      startUnread = λ c. refl;
+      endUnread = λ c p. refl;
     }
 
 pub opened-stamps : (s close : ℕ) (cs : List Call) → let r : Run = run (opened s close) cs in StampsAgree (r .venue .lastId) (r .venue .lastStamp) (r .venue .orders) (stampsOf (r .answered))

@@ -406,7 +406,7 @@ underBids s e first second third =
     onRestrictedDay (gets e (accepted 1 1 (91_000 + s) ∷ []) ∷ isRefused e 6 ∷ gets (bid 90_500) first ∷ isRefused (bid 90_501) 3
     ∷ gets (bid 90_200) second ∷ gets (bid 89_000) third ∷ gets (bid 91_500) [] ∷ [])
 
--- orders of which the claim is false: a hidden one, and one that is displayed at the bid before the trigger
+-- lists with an order of which the law is false: a hidden one, and one that is displayed at the bid before the trigger
 abbrev pub hiddenShort : ℕ → List Answered
 hiddenShort s = onRestrictedDay (gets (entryOf 1 2 90_500 5 0 0 0) (accepted 1 1 (91_000 + s) ∷ []) ∷ gets (bid 91_200) (repriced 1 (91_200 + s) 2 ∷ []) ∷ [])
 
@@ -414,7 +414,7 @@ abbrev pub displayedBefore : ℕ → List Answered
 displayedBefore s =
     gets (bid 91_000) [] ∷ gets (entryOf 1 2 91_000 5 1 0 0) (accepted 1 1 91_000 ∷ []) ∷ gets (tape 90_000) (restrictionStarts ∷ repriced 1 (91_000 + s) 2 ∷ []) ∷ []
 
--- claims that are too wide: of hidden orders too; of orders that were accepted at their limit too
+-- wider notions of the orders that are meant: hidden ones too; those that were accepted at their limit too
 abbrev pub HiddenToo : PricesGiven → Type 0
 HiddenToo g = (g .mark ≡ 2) × (g .limit < g .acceptedPrice)
 
@@ -442,7 +442,6 @@ pub record SlidPricesPlayed (s : ℕ) : Type 0 where
   pub displayedBeforeRises : Slides s (displayedBefore s) (shortWith 1 0 91_000 91_000 ((91_000 + s) ∷ []))
   pub notAtItsLimit : OnlyFallFor AtItsLimitToo (displayedBefore s) → ⊥
 
--- document 01's day: 91,100, 90,800, 90,500, and stamps 1 to 4
 abbrev pub answeredTo : List Event → List Answered
 answeredTo es = run (opened 100 100_000) (map callOf es) .answered
 
@@ -457,7 +456,8 @@ overDayEnd =
     ∷ gets (bid 90_200) (repriced 1 90_300 3 ∷ tradeOf 2 1 90_500 5 ∷ []) ∷ gets (dayEnd 90_000) (dayEnded 2 ∷ [])
     ∷ gets (entryOf 3 1 90_000 5 1 0 0) (accepted 3 4 90_000 ∷ []) ∷ [])
 
-pub record StampsComputed : Type 0 where
+pub record DaysComputed : Type 0 where
+  -- document 01's day: 91,100, 90,800, 90,500, and stamps 1 to 4
   pub dayPrices : pricesOf (answeredTo dayEvents) 1 ≡ shortWith 1 0 90_500 91_100 (90_500 ∷ 90_800 ∷ [])
   pub dayStamps : stampsOf (answeredTo dayEvents) .given ≡ 4 ∷ 3 ∷ 2 ∷ 1 ∷ []
   pub dayTrades : stampsOf (answeredTo dayEvents) .trades ≡ stampedTrade 2 1 91_100 200 2 1 2 ∷ []
@@ -466,7 +466,7 @@ pub record StampsComputed : Type 0 where
   pub repricedTakes : stampsOf overDayEnd .trades ≡ stampedTrade 2 1 90_500 5 2 3 1 ∷ []
 
 pub record SlidPricesComputed : Type 0 where
-  pub stamps : StampsComputed
+  pub days : DaysComputed
   pub atBoth : All SlidPricesPlayed (100 ∷ 50 ∷ [])
 
 -- other steps than 50 and 100 (No. 2), beside a close, a bid and a price that are refused at every step: "refused with 17, before the close or price is looked

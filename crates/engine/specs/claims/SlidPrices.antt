@@ -100,13 +100,15 @@ pub record OnlyFall (g : PricesGiven) : Type 0 where
   -- beyond the sentence: what is left of an adjusted opt-out is cancelled at its entry
   pub optOut : g .slide ≡ 3 → g .repricings ≡ []
 
--- of every order of the list that is one of these
+-- of every id of whose prices this holds
 abbrev pub OnlyFallFor : (PricesGiven → Type 0) → List Answered → Type 0
 OnlyFallFor These xs = (k : ℕ) → These (pricesOf xs k) → OnlyFall (pricesOf xs k)
 
--- it "never has a rising price": its price after the list isn't above its price after a front ys of the list
+-- it "never has a rising price": after a front ys of the list it is such an order; then it is one after the list, at a price that isn't above that after the front
 abbrev pub NeverRises : List Answered → Type 0
-NeverRises xs = (ys zs : List Answered) → xs ≡ ys ++ zs → (k : ℕ) → SlidAtEntry (pricesOf ys k) → lastPrice (pricesOf xs k) ≤ lastPrice (pricesOf ys k)
+NeverRises xs =
+    (ys zs : List Answered) → xs ≡ ys ++ zs → (k : ℕ) → SlidAtEntry (pricesOf ys k) →
+    SlidAtEntry (pricesOf xs k) × (lastPrice (pricesOf xs k) ≤ lastPrice (pricesOf ys k))
 
 -- a resting order and what the accounts say of it: it has the price and the stamp last given, and is the order of its entry
 pub record Recorded (g : PricesGiven) (s : ℕ) (o : Order) : Type 0 where
@@ -123,7 +125,9 @@ pub record PricesFall (xs : List Answered) (os : List Order) : Type 0 where
   pub neverRises : NeverRises xs
   -- "Stamps in the reports rise strictly through the whole list"
   pub stamps : Rising 0 (stampsOf xs .given)
+  -- for No. 12: "The later stamp in an execution is the taker"
   pub later : All WorkingIsLater (stampsOf xs .trades)
+  -- what rests has what the reports gave it; document 01: "each equal to the one last given"
   pub recorded : All (λ (o : Order). Recorded (pricesOf xs (o .id)) (stampsOf xs .stamp (o .id)) o) os
 
 -- for every step and close that open takes and every list of events, each lent a report buffer of any length
