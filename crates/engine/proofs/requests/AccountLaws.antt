@@ -38,15 +38,32 @@ module _ {A : Type 0} (r : Reading A) (I : ℕ → ℕ → List Order → A → 
   abbrev At : Venue → A → Type 0
   At v c = I (v .lastId) (v .lastStamp) (v .orders) c
 
+  -- an entry of either kind, and its report 1
+  abbrev pub KeptByEntry : Type 0
+  KeptByEntry =
+      (v : Venue) (x : Entered) (c : A) → EntryAllowed v (x .entry) → SoundVenue v → At v c →
+      let o : Order = orderOf (v .market) (v .lastStamp + 1) (x .owner) (x .entry) in
+      W (x.entry.id) (v .lastStamp + 1) o (v .orders) (r .read (r .begin (some x) c) (accepted (o .id) (o .stamp) (o .price)))
+
+  -- an order that the pass re-prices, and its report 4
+  abbrev pub KeptByRepricing : Type 0
+  KeptByRepricing =
+      (g n : ℕ) (m : Market) (o : Order) (os : List Order) (s p : ℕ) (used : Bool) (c : A) → moveInPass m o ≡ Reprice p used → List·Memᴰ o os → SoundBook g n s os → I n s os c →
+      W n (s + 1) (atNewPrice p (s + 1) used o) (without (o .id) os) (r .read c (repriced (o .id) p (s + 1)))
+
+  -- a meeting of the working order, and its report 2, or 3 with cause 5
+  abbrev pub KeptByMeeting : Type 0
+  KeptByMeeting =
+      (g n s : ℕ) (w o : Order) (os : List Order) (c : A) → SoundWork g n s w os → Reached w os (some o) → W n s w os c →
+      let x : Meeting = meeting w o os in
+      W n s (x .left) (x .orders) (r .read c (happened (x .happening)))
+
   pub record Kept : Type 0 where
     -- an event that is no entry begins
     pub begins : (n s : ℕ) (os : List Order) (c : A) → I n s os c → I n s os (r .begin none c)
-    -- an entry of either kind, and its report 1
-    pub enters : (v : Venue) (x : Entered) (c : A) → EntryAllowed v (x .entry) → SoundVenue v → At v c → let o : Order = orderOf (v .market) (v .lastStamp + 1) (x .owner) (x .entry) in W (x.entry.id) (v .lastStamp + 1) o (v .orders) (r .read (r .begin (some x) c) (accepted (o .id) (o .stamp) (o .price)))
-    -- an order that the pass re-prices, and its report 4
-    pub reprices : {g n : ℕ} (m : Market) (o : Order) (os : List Order) (s p : ℕ) (used : Bool) (c : A) → moveInPass m o ≡ Reprice p used → List·Memᴰ o os → SoundBook g n s os → I n s os c → W n (s + 1) (atNewPrice p (s + 1) used o) (without (o .id) os) (r .read c (repriced (o .id) p (s + 1)))
-    -- a meeting of the working order, and its report 2, or 3 with cause 5
-    pub meets : {g n s : ℕ} (w o : Order) (os : List Order) (c : A) → SoundWork g n s w os → Reached w os (some o) → W n s w os c → let x : Meeting = meeting w o os in W n s (x .left) (x .orders) (r .read c (happened (x .happening)))
+    pub enters : KeptByEntry
+    pub reprices : KeptByRepricing
+    pub meets : KeptByMeeting
     -- the working order is gone, or rests
     pub gone : (n s : ℕ) (w : Order) (os : List Order) (c : A) → W n s w os c → I n s os c
     pub rests : (n s : ℕ) (w : Order) (os : List Order) (c : A) → W n s w os c → I n s (insert w os) c
@@ -71,7 +88,7 @@ module _ {A : Type 0} (r : Reading A) (I : ℕ → ℕ → List Order → A → 
     unfolding work
     work-reads {g} {n} {s} w os c b h =
         let m : Matched = matching w os in
-        let z = matching-keeps (λ (d : A) (x : Happening). r .read d (happened x)) (λ x l d. SoundWork g n s x l × W n s x l d) (λ x o l d t i. (meeting-sound (t .0) (i .0), k .meets x o l d (i .0) t (i .1))) w os c (b, h) in
+        let z = matching-keeps (λ (d : A) (x : Happening). r .read d (happened x)) (λ x l d. SoundWork g n s x l × W n s x l d) (λ x o l d t i. (meeting-sound (t .0) (i .0), k .meets g n s x o l d (i .0) t (i .1))) w os c (b, h) in
         rw (foldl-append, foldl-map) (remainder-reads n s (remainder (m .left)) (m .left) (m .orders) _ (remainder-known (m .left)) (z .1))
 
     -- events
@@ -88,7 +105,7 @@ module _ {A : Type 0} (r : Reading A) (I : ℕ → ℕ → List Order → A → 
         go Stay e = h
         go Cancel e = rw (k .cancelledUnread c (o .id) (o .shares) 3 (omega arith)) (k .leaves n s (o .id) os c h)
         go (Reprice p used) e =
-            work-reads (atNewPrice p (s + 1) used o) (without (o .id) os) _ (atNewPrice-sound p used (rw e at (moveOf-sound m t o (book-order b i .works .fields))) i b) (k .reprices m o os s p used c e i b h)
+            work-reads (atNewPrice p (s + 1) used o) (without (o .id) os) _ (atNewPrice-sound p used (rw e at (moveOf-sound m t o (book-order b i .works .fields))) i b) (k .reprices (m .step) n m o os s p used c e i b h)
 
     module _ (m : Market) (v : Venue) (c : A) (t : HasPermitted m) (b : SoundBook (m .step) (v .lastId) (v .lastStamp) (v .orders)) (h : At v c) where
       pass-reads : AfterReading (r .read) (I (v .lastId)) (thePass m v) (r .begin none c)

@@ -57,7 +57,7 @@ use Rattle.engine.proofs.demand3.WorkingKeeps.{work-all}
 use Rattle.engine.proofs.demand3.SoundLaws.{SoundBook, SoundWork, book-distinct, book-others, passOne-sound, SoundVenue, sound-venue, market-permits}
 use Rattle.engine.proofs.demand3.CallLaws.{accepted-call, Readable, step-readable, bytes-read, callOf, fresh-run}
 use Rattle.engine.proofs.requests.PassLaws.{afterMove-all, thePass-all}
-use Rattle.engine.proofs.requests.AccountLaws.{Kept, opened-reads}
+use Rattle.engine.proofs.requests.AccountLaws.{KeptByEntry, Kept, opened-reads}
 use Rattle.engine.proofs.requests.WordStepLaws.{in-words, call-does}
 
 -- No firm trades with itself
@@ -90,7 +90,7 @@ record Works (w : Order) (os : List Order) (c : Owners) : Type 0 where
   working : c.working ≡ w.id
   apart : FirmsApart c
 
-module _ {g n s : ℕ} (w o : Order) (os : List Order) (c : Owners) (b : SoundWork g n s w os) (r : Reached w os (some o)) (i : Works w os c) where
+module _ (g n s : ℕ) (w o : Order) (os : List Order) (c : Owners) (b : SoundWork g n s w os) (r : Reached w os (some o)) (i : Works w os c) where
   distinct : Distinct os
   distinct = book-distinct (b .book)
 
@@ -150,7 +150,7 @@ WorksAt n s w os c = Works w os c
 apart-still : {c : Owners} → FirmsApart c → (f : ℕ → ℕ) (k : ℕ) → FirmsApart (record { owner = f; working = k; trades = c.trades; withdrawals = c.withdrawals })
 apart-still h f k = record { trades = h .trades; withdrawals = h .withdrawals }
 
-enters-works : (v : Venue) (x : Entered) (c : Owners) → EntryAllowed v (x .entry) → SoundVenue v → Agrees (v .orders) c → Works (orderOf (v .market) (v .lastStamp + 1) (x .owner) (x .entry)) (v .orders) (worksNow (x.entry.id) (ownersAfter (some x) c))
+enters-works : KeptByEntry readingOwners AgreesAt WorksAt
 unfolding orderOf
 enters-works v x c a g h =
     let i : ℕ = x.entry.id in
@@ -177,7 +177,7 @@ owners-kept =
     record {
       begins = λ n s os c h. record { known = h .known; apart = apart-still (h .apart) (c .owner) 0 };
       enters = enters-works;
-      reprices = λ m o os s p used c e i b h. repriced-works o os s p used c i (book-distinct b) h;
+      reprices = λ g n m o os s p used c e i b h. repriced-works o os s p used c i (book-distinct b) h;
       meets = meeting-works;
       gone = λ n s w os c i. record { known = i .others; apart = i .apart };
       rests = λ n s w os c i. record { known = all-taken (Knows c) (insert-taken w os) (i .own) (i .others); apart = i .apart };

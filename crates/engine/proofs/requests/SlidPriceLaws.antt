@@ -38,7 +38,7 @@ use Rattle.engine.proofs.demand3.MarketLaws.{permittedNow-above}
 use Rattle.engine.proofs.demand3.TallyLaws.{setAt-same, setAt-other}
 use Rattle.engine.proofs.demand3.SoundLaws.{SoundBook, SoundWork, book-distinct, book-others, book-order, SoundVenue}
 use Rattle.engine.proofs.demand3.CallLaws.{callOf, fresh-run}
-use Rattle.engine.proofs.requests.AccountLaws.{Kept, run-reads, opened-reads, run-front}
+use Rattle.engine.proofs.requests.AccountLaws.{KeptByEntry, KeptByRepricing, KeptByMeeting, Kept, run-reads, opened-reads, run-front}
 use Rattle.engine.proofs.requests.StampLaws.{opened-stamps}
 
 -- where an order that is displayed and clear goes: down, not under its limit, and with slide once only if it wasn't used
@@ -191,7 +191,7 @@ module _ (then : Prices) where
   new-lower : {n : ℕ} {c : Prices} (i : ℕ) (g : PricesGiven) → n < i → ColumnAgrees then n c → NotAbove (then i) g
   new-lower i g l h f = absurd (omega (arith, ap (λ (y : PricesGiven). y .acceptedPrice) (h .noneThen i l), f .2))
 
-  prices-enter : (v : Venue) (x : Entered) (c : Prices) → EntryAllowed v (x .entry) → SoundVenue v → PricesAgree then (v .lastId) (v .lastStamp) (v .orders) c → let o : Order = orderOf (v .market) (v .lastStamp + 1) (x .owner) (x .entry) in PricesWork then (x.entry.id) (v .lastStamp + 1) o (v .orders) (readPrice (startPrices (some x) c) (accepted (o .id) (o .stamp) (o .price)))
+  prices-enter : KeptByEntry readingPrices (PricesAgree then) (PricesWork then)
   unfolding orderOf
   prices-enter v x c a g h =
       let e : Entry = x.entry in
@@ -238,8 +238,8 @@ module _ (o : Order) (p s : ℕ) (used : Bool) (g : PricesGiven) (k : SaidOf g o
   repriced-lower : (before : PricesGiven) → NotAbove before g → NotAbove before (repricedTo p g)
   repriced-lower before h f = let r = h f in (r .0, omega (arith, y (r .0) .lower, k .price, r .1))
 
-prices-reprice : (then : Prices) {g n : ℕ} (m : Market) (o : Order) (os : List Order) (s p : ℕ) (used : Bool) (c : Prices) → moveInPass m o ≡ Reprice p used → List·Memᴰ o os → SoundBook g n s os → PricesAgree then n s os c → PricesWork then n (s + 1) (atNewPrice p (s + 1) used o) (without (o .id) os) (readPrice c (repriced (o .id) p (s + 1)))
-prices-reprice then {g} {n} m o os s p used c e i b h =
+prices-reprice : (then : Prices) → KeptByRepricing readingPrices (PricesAgree then) (PricesWork then)
+prices-reprice then g n m o os s p used c e i b h =
     let k : Knows c o = taken-all (Knows c) (mem-taken i (book-distinct b)) (h .known) .0 in
     let y : SlidAtEntry (c (o .id)) → MovesDown o p used = λ f. subst (Goes o) e (move-goes m o (sym (k .show) ∙ f .1) (k .slid f .clear)) in
     let given : PricesGiven = repricedTo p (c (o .id)) in
@@ -248,14 +248,14 @@ prices-reprice then {g} {n} m o os s p used c e i b h =
     (without-all (Knows c) (o .id) os (h .known))
     (set-column then (o .id) given c n n (omega arith) (book-order b i .works .id) (repriced-falls o p (s + 1) used (c (o .id)) k y (h .column .falls (o .id))) (repriced-lower o p (s + 1) used (c (o .id)) k y (then (o .id)) (h .column .lower (o .id))) (h .column))
 
--- a meeting tells it nothing
+-- a meeting changes nothing in it
 
 happened-unread : (c : Prices) (x : Happening) → readPrice c (happened x) ≡ c
 happened-unread c (traded x) = refl
 happened-unread c (withdrawn i q) = refl
 
-prices-meet : (then : Prices) {g n s : ℕ} (w o : Order) (os : List Order) (c : Prices) → SoundWork g n s w os → Reached w os (some o) → PricesWork then n s w os c → let x : Meeting = meeting w o os in PricesWork then n s (x .left) (x .orders) (readPrice c (happened (x .happening)))
-prices-meet then w o os c b r i =
+prices-meet : (then : Prices) → KeptByMeeting readingPrices (PricesAgree then) (PricesWork then)
+prices-meet then g n s w o os c b r i =
     let z = meeting-all (Knows c) (λ x q h. h) w o os (r .0) (book-distinct (b .book)) (i .own) (i .others) in
     rw (happened-unread c (meeting w o os .happening)) (record { own = z .0; others = z .1; column = i .column })
 

@@ -65,7 +65,7 @@ module _ {g n s : ℕ} (w : Order) (os : List Order) (c : Stamps) (e : w.stamp �
       older : All (Older (s + 1) c) os
       older = all-both (λ x k z. (k, omega (arith, z .works .last))) os known (b .orders)
 
-module _ {g n s : ℕ} (w o : Order) (os : List Order) (c : Stamps) (b : SoundWork g n s w os) (r : Reached w os (some o)) (i : StampsWork n s w os c) where
+module _ (g n s : ℕ) (w o : Order) (os : List Order) (c : Stamps) (b : SoundWork g n s w os) (r : Reached w os (some o)) (i : StampsWork n s w os c) where
   met : Older s c o
   met = taken-all (Older s c) (mem-taken (r .0) (book-distinct (b .book))) (i .others) .0
 
@@ -106,8 +106,8 @@ stamps-kept =
     record {
       begins = λ n s os c h. record { known = h .known; rises = h .rises };
       enters = λ v x c a g h. stamp-works _ (v .orders) (noneWorks c) refl (g .book) (book-others (g .book) (a .place .newId)) (h .known) (h .rises) (x.entry.id);
-      reprices = λ {g} {n} m o os s p used c e i b h. stamp-works (atNewPrice p (s + 1) used o) (without (o .id) os) c refl (book-without b (o .id)) (without-other (o .id) os) (without-all (HasStamp c) (o .id) os (h .known)) (h .rises) n;
-      meets = λ w o os c b r i. meeting-works w o os c b r i;
+      reprices = λ g n m o os s p used c e i b h. stamp-works (atNewPrice p (s + 1) used o) (without (o .id) os) c refl (book-without b (o .id)) (without-other (o .id) os) (without-all (HasStamp c) (o .id) os (h .known)) (h .rises) n;
+      meets = meeting-works;
       gone = λ n s w os c i. record { known = all-map (λ x k. k .0) os (i .others); rises = i .rises };
       rests = λ n s w os c i. record { known = all-taken (HasStamp c) (insert-taken w os) (i .own) (all-map (λ x k. k .0) os (i .others)); rises = i .rises };
       leaves = λ n s i os c h. record { known = without-all (HasStamp c) i os (h .known); rises = h .rises };
