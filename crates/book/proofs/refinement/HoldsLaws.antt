@@ -11,7 +11,8 @@ use Rattle.book.specs.rules.Words.{orderWidth, venueWords, layoutNumber,
 use Rattle.book.specs.steps.BookSteps.{Book, Holds, HeaderSet}
 use Rattle.book.specs.steps.WordSteps.{Stored, ShiftedDown, ShiftedUp}
 use Rattle.book.specs.steps.Positions.{removeAt, insertAt}
-use Rattle.book.proofs.refinement.TabulateLaws.{by-order, tabulate-ext, set-tabulate, remove-tabulate, insert-tabulate}
+use Rattle.numbers.proofs.TabulateLaws.{by-order, tabulate-ext}
+use Rattle.book.proofs.refinement.TabulateLaws.{set-tabulate, remove-tabulate, insert-tabulate}
 use Rattle.book.proofs.refinement.WordLaws.{flag-inside, order-ext, resting-length, resting-tabulate, resting-is, resting-n}
 
 -- the same orders, said otherwise

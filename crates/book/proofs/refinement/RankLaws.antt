@@ -14,7 +14,7 @@ use Rattle.book.specs.declared.Order.{Order}
 use Rattle.book.specs.rules.Orders.{find, insert}
 use Rattle.book.specs.rules.Words.{emptyOrder}
 use Rattle.book.specs.steps.Positions.{insertAt, rankOf}
-use Rattle.book.proofs.refinement.TabulateLaws.{by-order}
+use Rattle.numbers.proofs.TabulateLaws.{by-order}
 use Rattle.book.proofs.definitions.RisingLaws.{Rises}
 use Rattle.book.proofs.refinement.PositionLaws.{id-above}
 

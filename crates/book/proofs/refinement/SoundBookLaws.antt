@@ -10,11 +10,12 @@ use Rattle.numbers.specs.Tests.{every, All}
 use Rattle.numbers.proofs.TestLaws.{and-T, T-and, every-T, T-every, neqb, ne→T, all-map}
 use Rattle.book.specs.declared.Order.{Order}
 use Rattle.book.specs.rules.Sound.{idsRise, stampsDiffer, soundOrder}
-use Rattle.book.specs.rules.Words.{tabulate, word, orderAt, resting, flagsAt, isBook, soundBook}
+use Rattle.numbers.specs.Lists.{tabulate}
+use Rattle.book.specs.rules.Words.{word, orderAt, resting, flagsAt, isBook, soundBook}
 use Rattle.book.specs.steps.RecordWalk.{stampAt, stampSeen, idBefore, soundAt}
 use Rattle.book.proofs.definitions.OrderLaws.{stampOf, Differ}
 use Rattle.book.proofs.definitions.RisingLaws.{Rises, idsRise-rises, rises-idsRise}
-use Rattle.book.proofs.refinement.TabulateLaws.{all-tabulate, tabulate-all}
+use Rattle.numbers.proofs.TabulateLaws.{all-tabulate, tabulate-all}
 use Rattle.book.proofs.refinement.WordLaws.{HeaderLaidOut, LaidOut, isBook-laidOut, laidOut-isBook}
 use Rattle.book.proofs.refinement.StampLaws.{unseen-T, T-unseen}
 

@@ -13,7 +13,7 @@ use borrow.Author.Tests.{eq-eqb, ne-eqb}
 use Rattle.numbers.proofs.TestLaws.{by-test, neqb, eq→T}
 use Rattle.book.specs.rules.Words.{word}
 use Rattle.book.specs.steps.RecordWalk.{stampAt, stampSeen, bucketOf, lastIn, Linked, idBefore}
-use Rattle.book.proofs.refinement.TabulateLaws.{by-order}
+use Rattle.numbers.proofs.TabulateLaws.{by-order}
 
 pub unseen-T : (w : List ℕ) (s n : ℕ) → T (not (stampSeen w s n)) → (j : ℕ) → j < n → stampAt w j ≡ s → ⊥
 unfolding stampSeen

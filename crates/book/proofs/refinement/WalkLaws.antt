@@ -9,7 +9,7 @@ use lib.Dec.{T, T-not}
 use lib.ListN.{length, getD, set, length-set, replicate, length-replicate}
 use Rattle.book.specs.rules.Words.{headerLaidOut, soundBook}
 use Rattle.book.specs.steps.RecordWalk.{stampAt, stampSeen, bucketOf, soundAt}
-use Rattle.book.proofs.refinement.TabulateLaws.{by-order}
+use Rattle.numbers.proofs.TabulateLaws.{by-order}
 use Rattle.book.proofs.refinement.WordLaws.{HeaderLaidOut, headerLaidOut-facts, facts-headerLaidOut}
 use Rattle.book.proofs.refinement.StampLaws.{Chains, chains-start, chains-more}
 use Rattle.book.proofs.refinement.SoundBookLaws.{soundBook-places, places-soundBook}

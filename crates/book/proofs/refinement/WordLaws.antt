@@ -10,10 +10,11 @@ use lib.ListN.{length, getD}
 use Rattle.numbers.specs.Tests.{conj}
 use Rattle.numbers.proofs.TestLaws.{and-T, T-and, eq→T}
 use Rattle.book.specs.declared.Order.{Order}
-use Rattle.book.specs.rules.Words.{orderWidth, venueWords, layoutNumber, layoutWord, firstFlag, pastFlags, placeFrom, orderOf, flagWord, emptyOrder, tabulate, word, orderAt, resting, flagsAt, headerLaidOut, isBook}
+use Rattle.numbers.specs.Lists.{tabulate}
+use Rattle.book.specs.rules.Words.{orderWidth, venueWords, layoutNumber, layoutWord, firstFlag, pastFlags, placeFrom, orderOf, flagWord, emptyOrder, word, orderAt, resting, flagsAt, headerLaidOut, isBook}
 use Rattle.book.specs.steps.BookSteps.{Book}
 use Rattle.book.specs.steps.WordSteps.{Row}
-use Rattle.book.proofs.refinement.TabulateLaws.{by-order, length-tabulate, getD-tabulate, tabulate-ext}
+use Rattle.numbers.proofs.TabulateLaws.{by-order, length-tabulate, getD-tabulate, tabulate-ext}
 
 -- two orders whose words are the same are one
 pub order-ext : (f g : ℕ → ℕ) → ((k : ℕ) → k < orderWidth → f k ≡ g k) → orderOf (tabulate orderWidth f) ≡ orderOf (tabulate orderWidth g)

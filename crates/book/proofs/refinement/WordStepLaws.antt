@@ -10,7 +10,7 @@ use borrow.Rule.Slice.PartMut.{midOf, putMid, same-len-mid}
 use Rattle.book.specs.declared.Order.{Order}
 use Rattle.book.specs.rules.Words.{orderWidth, placeFrom, word}
 use Rattle.book.specs.steps.WordSteps.{Row, Copied, Stored, ShiftedDown, ShiftedUp}
-use Rattle.book.proofs.refinement.TabulateLaws.{by-order}
+use Rattle.numbers.proofs.TabulateLaws.{by-order}
 use Rattle.book.proofs.refinement.WordLaws.{flag-inside, order-ext}
 
 pub copied-none : (w : List ℕ) (at : ℕ) (row : List ℕ) → Copied w w at row 0

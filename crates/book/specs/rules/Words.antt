@@ -1,23 +1,27 @@
 -- What a run of words means as a book: the header, whose first word is the number of orders and whose last is the number of the layout, then
 -- 256 places, each the words of an order, the used ones in front; a longer run has further words behind. Assumes nothing.
-use Prim.Native.Nat.{ℕ, zero, suc, _+_, _-_, _*_}
+use Prim.Native.Nat.{ℕ, _+_, _-_, _*_}
 use mathlib.Core.Bool.{Bool, true, false, _&&_}
-use mathlib.Core.List.{List, [], _∷_}
+use mathlib.Core.List.{List, []}
 use lib.Dec.{leb, eqb}
 use lib.ListN.{length, getD}
 use Rattle.numbers.specs.Tests.{conj, every}
+use Rattle.numbers.specs.Lists.{tabulate}
 use Rattle.book.specs.declared.Order.{Order}
 use Rattle.book.specs.rules.Sound.{idsRise, soundOrder, stampsDiffer}
 
--- the words of the header, of an order (one a field) and of a venue
+-- the words of the header, of an order (one a field), of the book's part and of a venue
 abbrev pub headerWords : ℕ
 headerWords = 16
 
 abbrev pub orderWidth : ℕ
 orderWidth = 15
 
+abbrev pub bookWords : ℕ
+bookWords = headerWords + 256 * orderWidth
+
 abbrev pub venueWords : ℕ
-venueWords = headerWords + 256 * orderWidth
+venueWords = bookWords
 
 -- the number of this layout, and the header word that has it: words that were stored under another layout are no venue
 abbrev pub layoutNumber : ℕ
@@ -61,11 +65,6 @@ flagWord false = 0
 -- what a list gives past its end
 abbrev pub emptyOrder : Order
 emptyOrder = orderOf []
-
--- f 0, f 1, .., f (n - 1)
-abbrev pub tabulate {ℓ} : {A : Type ℓ} → ℕ → (ℕ → A) → List A
-tabulate zero f = []
-tabulate (suc n) f = f zero ∷ tabulate n (λ k. f (suc k))
 
 -- the index of the first word of place i
 abbrev pub placeFrom : ℕ → ℕ

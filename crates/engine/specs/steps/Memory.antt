@@ -8,7 +8,7 @@ use Rattle.numbers.specs.SevenBit.{Put}
 use Rattle.prices.specs.Prices.{isStep}
 use Rattle.book.specs.declared.Order.{Order}
 use Rattle.book.specs.rules.Sound.{idsRise}
-use Rattle.book.specs.rules.Words.{headerWords, venueWords, resting}
+use Rattle.book.specs.rules.Words.{headerWords, bookWords, resting}
 use Rattle.book.specs.steps.BookSteps.{Book}
 use Rattle.engine.specs.declared.Market.{Market}
 use Rattle.engine.specs.declared.Event.{Event}
@@ -38,11 +38,11 @@ pub record HasStep (w : List ℕ) : Type 0 where
   pub book : Book w
   pub is : T (isStep (venueOf w .market .step))
 
--- what no step but the last of an event changes: the length, the header but for the count, the words behind the venue
+-- what no step but the last of an event changes: the length, the header but for the count, the words behind the book
 pub record SameHeader (w w′ : List ℕ) : Type 0 where
   pub size : length w′ ≡ length w
   pub header : (j : ℕ) → 0 < j → j < headerWords → getD w′ j 0 ≡ getD w j 0
-  pub behind : (j : ℕ) → venueWords ≤ j → getD w′ j 0 ≡ getD w j 0
+  pub behind : (j : ℕ) → bookWords ≤ j → getD w′ j 0 ≡ getD w j 0
 
 -- a step of the header, or of a whole event: the words w′ are then the venue v
 pub record Becomes (w w′ : List ℕ) (v : Venue) : Type 0 where
