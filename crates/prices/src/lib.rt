@@ -1,5 +1,6 @@
-// Prices, bids, the permitted price and the phases of the restriction: the second layer.
+// Prices, bids, the permitted price, the phases of the restriction and the pause watch: the second layer.
 pub mod increments;
+pub mod pause;
 pub mod restriction;
 
 // A price in ten-thousandths of a dollar.
@@ -33,4 +34,10 @@ pub enum WatchAnswer {
     Updated,
     NotLegal,
     NotStep,
+}
+
+// A tape price with its time in whole seconds.
+pub struct TimedPrice {
+    pub time: u32,
+    pub price: u32,
 }
