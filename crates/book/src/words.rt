@@ -1,5 +1,6 @@
 // The layout of a book in lent words: its header words, and its orders one at a time by value.
 use crate::Order;
+use prices::pause;
 ghost use mathlib.Core.Path.{_≡_};
 ghost use Prim.Native.Nat.{_+_, _<_, _≤_};
 ghost use mathlib.Core.List.{[]};
@@ -8,17 +9,19 @@ ghost use Rattle.book.specs.rules.Words.{headerWords, orderWidth, venueW
 ghost use Rattle.book.specs.steps.BookSteps.{Book, Holds, HeaderSet};
 ghost use Rattle.book.specs.steps.WordSteps.{Row, Copied, Stored};
 
-// The words of the header and of an order, the places for orders, and the words of a venue.
+// The words of the header and of an order, the places for orders, the words of the book's part, and those of a venue, with the kept prices.
 const HEADER: usize = 16;
 
 pub(crate) const WIDTH: usize = 15;
 
 pub const PLACES: usize = 256;
 
-pub const VENUE: usize = HEADER + PLACES * WIDTH;
+pub const BOOK: usize = HEADER + PLACES * WIDTH;
+
+pub const VENUE: usize = BOOK + pause::KEPT_WORDS;
 
 // The number of this layout, and the header word that has it.
-pub const LAYOUT: u32 = 4;
+pub const LAYOUT: u32 = 5;
 
 pub const LAYOUT_WORD: usize = 15;
 

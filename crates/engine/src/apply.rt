@@ -9,13 +9,15 @@ use crate::header;
 use crate::leave;
 use crate::quote;
 use crate::refuse;
+use crate::timed;
 use book::Position;
 use book::search;
 use book::words;
+use prices::TimedPrice;
 ghost use Prim.Native.Nat.{_≤_};
 ghost use lib.Dec.{T};
 ghost use lib.ListN.{length};
-ghost use Rattle.engine.specs.declared.Event.the-variants.{Entry as entry, Cancel as cancel, Bid as bid, Tape as tape, DayEnd as dayEnd, OwnedEntry as ownedEntry};
+ghost use Rattle.engine.specs.declared.Event.the-variants.{Entry as entry, Cancel as cancel, Bid as bid, Tape as tape, DayEnd as dayEnd, OwnedEntry as ownedEntry, TimedTape as timedTape};
 ghost use Rattle.engine.specs.rules.Refusals.{leastBuffer};
 ghost use Rattle.engine.specs.steps.Memory.{MayJudge};
 ghost use Rattle.engine.specs.claims.Calls.{Applied};
@@ -69,7 +71,17 @@ fn apply_tape(w: &mut [u32], reports: &mut [u8], price: u32) -> Answer
     if !refuse::allows_price(w, price) {
         return Answer::Refused(Refusal::PriceNotLegal);
     }
-    Answer::Accepted(quote::new_tape(w, reports, price))
+    Answer::Accepted(quote::new_tape(w, reports, 0, price))
+}
+
+fn apply_timed_tape(w: &mut [u32], reports: &mut [u8], x: TimedPrice) -> Answer
+    requires { ⌜ MayJudge (now w) (now reports) ⌝ }
+    ensures { λ r. ⌜ Applied (now (w .entry)) (timedTape x) (now (reports .entry)) (outcomeOfAnswer r) (now (w .exit)) (now (reports .exit)) ⌝ }
+{
+    match timed::timed_refusal(w, x) {
+        MayRefuse::Refuse(refusal) => Answer::Refused(refusal),
+        MayRefuse::Allow => Answer::Accepted(timed::new_timed_tape(w, reports, x)),
+    }
 }
 
 fn apply_day_end(w: &mut [u32], reports: &mut [u8], close: u32) -> Answer
@@ -94,6 +106,7 @@ fn apply_kind(w: &mut [u32], event: Event, reports: &mut [u8]) -> Answer
         Event::Tape(price) => apply_tape(w, reports, price),
         Event::DayEnd(close) => apply_day_end(w, reports, close),
         Event::OwnedEntry(e, owner) => apply_owned_entry(w, reports, e, owner),
+        Event::TimedTape(x) => apply_timed_tape(w, reports, x),
     }
 }
 

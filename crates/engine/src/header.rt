@@ -3,9 +3,12 @@ use crate::Market;
 use book::words;
 ghost use mathlib.Core.Path.{_≡_};
 ghost use Prim.Native.Nat.{_<_};
+ghost use lib.ListN.{length};
+ghost use Rattle.prices.specs.KeptWords.{keptIn};
+ghost use Rattle.book.specs.rules.Words.{bookWords};
 ghost use Rattle.book.specs.steps.BookSteps.{Book};
 ghost use Rattle.engine.specs.rules.Sound.{mostEvents};
-ghost use Rattle.engine.specs.steps.Memory.{Ordered, Becomes, inMarket, finished};
+ghost use Rattle.engine.specs.steps.Memory.{Ordered, Becomes, inMarket, withKept, finished};
 ghost use Rattle.engine.specs.rules.Layout.{venueOf};
 
 pub(crate) const CLOSE: usize = 1;
@@ -21,6 +24,8 @@ pub(crate) const LAST_STAMP: usize = 5;
 pub(crate) const ACCEPTED_EVENTS: usize = 6;
 
 pub(crate) const STEP: usize = 7;
+
+pub(crate) const KEPT: usize = 8;
 
 pub(crate) fn market(w: &[u32]) -> Market
     requires { ⌜ Book (now w) ⌝ }
@@ -42,6 +47,22 @@ pub(crate) fn set_market(w: &mut [u32], m: Market)
     words::set_header_word(w, CLOSE, m.close);
     words::set_header_word(w, PHASE, m.phase);
     words::set_header_word(w, BID, m.bid);
+}
+
+// How many prices are kept.
+pub(crate) fn kept_count(w: &[u32]) -> usize
+    requires { ⌜ Book (now w) ⌝ }
+    ensures { λ r. ⌜ r ≡ length (venueOf (now (w .entry)) .kept) ⌝ }
+{
+    words::header_word(w, KEPT) as usize
+}
+
+// Counts another number of kept prices: the first of those that the words have.
+pub(crate) fn set_kept_count(w: &mut [u32], count: u32)
+    requires { ⌜ Ordered (now w) ⌝ }
+    ensures { λ _. ⌜ Becomes (now (w .entry)) (now (w .exit)) (withKept (keptIn (now (w .entry)) bookWords count) (venueOf (now (w .entry)))) ⌝ }
+{
+    words::set_header_word(w, KEPT, count);
 }
 
 // The end of an accepted event.

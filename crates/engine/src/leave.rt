@@ -72,6 +72,7 @@ pub(crate) fn end_day(w: &mut [u32], reports: &mut [u8], close: u32) -> usize
     let end = report::write_day_ended(reports, at, m.phase);
     words::clear(w);
     header::set_market(w, m);
+    header::set_kept_count(w, 0);
     header::finish_same(w);
     end
 }

@@ -1,4 +1,4 @@
-// The venue of document 01, with document 02 up to No. 9: events, reports, refusals and the law of demand 3. The fourth layer.
+// The venue of document 01, with document 02 up to No. 10: events, reports, refusals and the law of demand 3. The fourth layer.
 pub mod apply;
 pub mod copy;
 mod enter;
@@ -11,11 +11,13 @@ pub mod refusals;
 pub mod refuse;
 mod report;
 mod slide;
+mod timed;
 mod working;
 
 use book::FrontRead;
 use book::Order;
 use book::words;
+use prices::TimedPrice;
 
 // The close, the phase of the restriction, the national bid and the step of prices from the dollar border up.
 pub struct Market {
@@ -48,6 +50,8 @@ pub enum Event {
     DayEnd(u32),
     // an entry and its owner (No. 7); one that is sent as `Entry` has owner 0
     OwnedEntry(Entry, u32),
+    // a tape price with its time (No. 10)
+    TimedTape(TimedPrice),
 }
 
 // What becomes of the remainder of a working order: there is none, it is cancelled for a cause, or it rests.
@@ -103,6 +107,10 @@ pub enum Refusal {
     SlideOnWrongMark,
     // an owner that isn't 1 to 65,535
     OwnerOutOfRange,
+    // a time before the last one of the day
+    TimeBeforeLast,
+    // a 513th kept price
+    KeptPricesFull,
 }
 
 // Whether an event or a question is refused, and why.

@@ -14,7 +14,7 @@ ghost use Rattle.engine.specs.rules.Records.{reportsBytes};
 ghost use Rattle.engine.specs.rules.Venue.{restrictionReport};
 ghost use Rattle.engine.specs.rules.Market.{marketAfter};
 ghost use Rattle.engine.specs.rules.Layout.{venueOf};
-ghost use Rattle.engine.specs.steps.Memory.{MayAccept, Room, effectIn, Accepts};
+ghost use Rattle.engine.specs.steps.Memory.{MayAccept, Room, effectIn, AcceptsFrom, Accepts};
 ghost use Rattle.engine.specs.steps.Steps.{passIn, PassesAndFinishes};
 
 // The pass in the market of the words, and the end of the event.
@@ -55,14 +55,14 @@ fn market_after_tape(m: Market, price: u32) -> Market
 }
 
 // Reports that the restriction starts, where the phase has changed.
-fn report_restriction(reports: &mut [u8], before: Market, after: Market) -> usize
-    requires { ⌜ Room (now reports) 0 (restrictionReport before after) ⌝ }
-    ensures { λ r. ⌜ Put (reportsBytes (restrictionReport before after)) 0 (now (reports .entry)) r (now (reports .exit)) ⌝ }
+fn report_restriction(reports: &mut [u8], at: usize, before: Market, after: Market) -> usize
+    requires { ⌜ Room (now reports) at (restrictionReport before after) ⌝ }
+    ensures { λ r. ⌜ Put (reportsBytes (restrictionReport before after)) at (now (reports .entry)) r (now (reports .exit)) ⌝ }
 {
     if before.phase == after.phase {
-        return 0;
+        return at;
     }
-    report::write_restriction_starts(reports, 0)
+    report::write_restriction_starts(reports, at)
 }
 
 // A new national bid.
@@ -75,14 +75,14 @@ pub(crate) fn new_bid(w: &mut [u32], reports: &mut [u8], bid: u32) -> usize
     pass_and_finish(w, reports, 0)
 }
 
-// A tape price.
-pub(crate) fn new_tape(w: &mut [u32], reports: &mut [u8], price: u32) -> usize
-    requires { ⌜ MayAccept (now w) × Room (now reports) 0 (effectIn (now w) (tapeEvent price) .reports) ⌝ }
-    ensures { λ r. ⌜ Accepts (now (w .entry)) (now (w .exit)) (now (reports .entry)) (now (reports .exit)) (tapeEvent price) r ⌝ }
+// A tape price, its reports written from an offset on.
+pub(crate) fn new_tape(w: &mut [u32], reports: &mut [u8], at: usize, price: u32) -> usize
+    requires { ⌜ MayAccept (now w) × Room (now reports) at (effectIn (now w) (tapeEvent price) .reports) ⌝ }
+    ensures { λ r. ⌜ AcceptsFrom (now (w .entry)) (now (w .exit)) (now (reports .entry)) (now (reports .exit)) (tapeEvent price) at r ⌝ }
 {
     let before = header::market(w);
     let after = market_after_tape(before, price);
-    let at = report_restriction(reports, before, after);
+    let end = report_restriction(reports, at, before, after);
     header::set_market(w, after);
-    pass_and_finish(w, reports, at)
+    pass_and_finish(w, reports, end)
 }

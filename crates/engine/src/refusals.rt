@@ -21,5 +21,7 @@ pub fn number_of(refusal: Refusal) -> u32
         Refusal::SlideOutOfRange => 19,
         Refusal::SlideOnWrongMark => 20,
         Refusal::OwnerOutOfRange => 21,
+        Refusal::TimeBeforeLast => 22,
+        Refusal::KeptPricesFull => 23,
     }
 }

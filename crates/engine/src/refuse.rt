@@ -7,6 +7,7 @@ use crate::working;
 use book::sound;
 use book::words;
 use prices::increments;
+use prices::pause;
 ghost use mathlib.Core.Path.{_≡_};
 ghost use Prim.Native.Nat.{_≤_};
 ghost use mathlib.Core.Bool.{_||_};
@@ -218,6 +219,9 @@ pub fn venue_sound(w: &[u32]) -> bool
         return false;
     }
     if !header_sound(w) {
+        return false;
+    }
+    if !pause::kept_sound(w, words::BOOK, w[header::KEPT], w[header::STEP]) {
         return false;
     }
     sound::is_sound(

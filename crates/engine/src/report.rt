@@ -3,7 +3,7 @@ use numbers::write;
 ghost use Prim.Native.Nat.{_+_, _≤_};
 ghost use lib.ListN.{length};
 ghost use Rattle.numbers.specs.SevenBit.{Put};
-ghost use Rattle.engine.specs.rules.Reports.{accepted, executed, cancelled, repriced, restrictionStarts, dayEnded};
+ghost use Rattle.engine.specs.rules.Reports.{accepted, executed, cancelled, repriced, restrictionStarts, dayEnded, pauseTriggered};
 ghost use Rattle.engine.specs.rules.Records.{reportBytes};
 
 pub(crate) fn write_accepted(bytes: &mut [u8], at: usize, id: u32, stamp: u32, price: u32) -> usize
@@ -56,6 +56,14 @@ pub(crate) fn write_restriction_starts(bytes: &mut [u8], at: usize) -> usize
     ensures { λ r. ⌜ Put (reportBytes restrictionStarts) at (now (bytes .entry)) r (now (bytes .exit)) ⌝ }
 {
     let numbers = [5];
+    write::put_numbers(bytes, at, &numbers)
+}
+
+pub(crate) fn write_pause_triggered(bytes: &mut [u8], at: usize, direction: u32, price: u32) -> usize
+    requires { ⌜ at + length (reportBytes (pauseTriggered direction price)) ≤ length (now bytes) ⌝ }
+    ensures { λ r. ⌜ Put (reportBytes (pauseTriggered direction price)) at (now (bytes .entry)) r (now (bytes .exit)) ⌝ }
+{
+    let numbers = [7, direction as u64, price as u64];
     write::put_numbers(bytes, at, &numbers)
 }
 

@@ -1,5 +1,6 @@
 -- What a run of words means as a book: the header, whose first word is the number of orders and whose last is the number of the layout, then
--- 256 places, each the words of an order, the used ones in front; a longer run has further words behind. Assumes nothing.
+-- 256 places, each the words of an order, the used ones in front. Behind it are the words of the kept prices; a longer run has further words behind
+-- these. Assumes nothing.
 use Prim.Native.Nat.{ℕ, _+_, _-_, _*_}
 use mathlib.Core.Bool.{Bool, true, false, _&&_}
 use mathlib.Core.List.{List, []}
@@ -7,6 +8,7 @@ use lib.Dec.{leb, eqb}
 use lib.ListN.{length, getD}
 use Rattle.numbers.specs.Tests.{conj, every}
 use Rattle.numbers.specs.Lists.{tabulate}
+use Rattle.prices.specs.KeptWords.{keptWords}
 use Rattle.book.specs.declared.Order.{Order}
 use Rattle.book.specs.rules.Sound.{idsRise, soundOrder, stampsDiffer}
 
@@ -21,11 +23,11 @@ abbrev pub bookWords : ℕ
 bookWords = headerWords + 256 * orderWidth
 
 abbrev pub venueWords : ℕ
-venueWords = bookWords
+venueWords = bookWords + keptWords
 
 -- the number of this layout, and the header word that has it: words that were stored under another layout are no venue
 abbrev pub layoutNumber : ℕ
-layoutNumber = 4
+layoutNumber = 5
 
 abbrev pub layoutWord : ℕ
 layoutWord = 15

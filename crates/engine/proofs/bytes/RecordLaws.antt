@@ -16,8 +16,8 @@ use Rattle.numbers.proofs.ByteLaws.{bytes-last, length-positive}
 use Rattle.numbers.proofs.PlaceLaws.{stands-none, stands-then, stands-front, stands-behind}
 use Rattle.numbers.proofs.ReadLaws.{read-there, NumberStands, read-unique}
 use Rattle.engine.specs.declared.Event.{Event}
-use Rattle.engine.specs.declared.Event.the-variants.{Entry as entry, Cancel as cancel, Bid as bid, Tape as tape, DayEnd as dayEnd, OwnedEntry as ownedEntry}
-use Rattle.engine.specs.rules.Reports.{Report, accepted, executed, cancelled, repriced, restrictionStarts, dayEnded}
+use Rattle.engine.specs.declared.Event.the-variants.{Entry as entry, Cancel as cancel, Bid as bid, Tape as tape, DayEnd as dayEnd, OwnedEntry as ownedEntry, TimedTape as timedTape}
+use Rattle.engine.specs.rules.Reports.{Report, accepted, executed, cancelled, repriced, restrictionStarts, dayEnded, pauseTriggered}
 use Rattle.engine.specs.rules.Records.{recordNumbers, reportNumbers, recordBytes, reportBytes, reportsBytes, highestField, byField, onField, fieldsAt, Form, onKind, byCount, byKind, formAt, recordFields, reportFields, eventOf, reportOf, readAs, recordAt, reportAt, onReport, byReport, reportsFrom, reportsUpTo}
 use Rattle.engine.specs.claims.RoundTrips.{Word, ReportWords, StandsAs, ReadsOnly, RecordsReadBack, RecordsReadOnly, ReportsReadBack, ReportsReadOnly, AllReportsReadBack, AllReportsReadOnly}
 

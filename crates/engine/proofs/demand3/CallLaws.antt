@@ -17,7 +17,7 @@ use Rattle.numbers.proofs.PlaceLaws.{overwrite-stands}
 use Rattle.prices.specs.Prices.{isStep, legal}
 use Rattle.book.specs.rules.Words.{isBook}
 use Rattle.engine.specs.declared.Event.{Event}
-use Rattle.engine.specs.declared.Event.the-variants.{Entry as entry, Cancel as cancel, Bid as bid, Tape as tape, DayEnd as dayEnd, OwnedEntry as ownedEntry}
+use Rattle.engine.specs.declared.Event.the-variants.{Entry as entry, Cancel as cancel, Bid as bid, Tape as tape, DayEnd as dayEnd, OwnedEntry as ownedEntry, TimedTape as timedTape}
 use Rattle.engine.specs.rules.Reports.{Report}
 use Rattle.engine.specs.rules.Venue.{Venue, opened, lastIdAfter}
 use Rattle.engine.specs.rules.Refusals.{leastBuffer, refusal}

@@ -17,7 +17,7 @@ use Rattle.book.proofs.definitions.OrderLaws.{shares-first, shares-empty, idOf,
 use Rattle.engine.specs.declared.Market.{Market}
 use Rattle.engine.specs.declared.Entry.{Entry}
 use Rattle.engine.specs.declared.Event.{Event}
-use Rattle.engine.specs.declared.Event.the-variants.{Entry as entry, Cancel as cancel, Bid as bid, Tape as tape, DayEnd as dayEnd, OwnedEntry as ownedEntry}
+use Rattle.engine.specs.declared.Event.the-variants.{Entry as entry, Cancel as cancel, Bid as bid, Tape as tape, DayEnd as dayEnd, OwnedEntry as ownedEntry, TimedTape as timedTape}
 use Rattle.engine.specs.rules.Market.{restricted, marketAfter}
 use Rattle.engine.specs.rules.Reports.{Report, cancelled, dayEnded, endOfDay}
 use Rattle.engine.specs.rules.Working.{workingPrice, orderOf}

@@ -19,7 +19,7 @@ use Rattle.book.proofs.definitions.MeetingLaws.{meeting-by}
 use Rattle.book.proofs.definitions.MatchingLaws.{afterTrade-all, afterTrade-length, meeting-distinct, matching-keeps, unread}
 use Rattle.engine.specs.declared.Entry.{Entry}
 use Rattle.engine.specs.declared.Event.{Event}
-use Rattle.engine.specs.declared.Event.the-variants.{Entry as entry, Cancel as cancel, Bid as bid, Tape as tape, DayEnd as dayEnd, OwnedEntry as ownedEntry}
+use Rattle.engine.specs.declared.Event.the-variants.{Entry as entry, Cancel as cancel, Bid as bid, Tape as tape, DayEnd as dayEnd, OwnedEntry as ownedEntry, TimedTape as timedTape}
 use Rattle.engine.specs.declared.Remainder.{Remainder}
 use Rattle.engine.specs.declared.Remainder.the-variants.{Filled, Cancelled, Rests}
 use Rattle.engine.specs.rules.Market.{restricted}

@@ -12,7 +12,7 @@ use Rattle.book.specs.rules.Sound.{soundOrder}
 use Rattle.engine.specs.declared.Market.{Market}
 use Rattle.engine.specs.declared.Entry.{Entry}
 use Rattle.engine.specs.declared.Event.{Event}
-use Rattle.engine.specs.declared.Event.the-variants.{Entry as entry, Cancel as cancel, Bid as bid, Tape as tape, DayEnd as dayEnd, OwnedEntry as ownedEntry}
+use Rattle.engine.specs.declared.Event.the-variants.{Entry as entry, Cancel as cancel, Bid as bid, Tape as tape, DayEnd as dayEnd, OwnedEntry as ownedEntry, TimedTape as timedTape}
 use Rattle.engine.specs.rules.Market.{marketAfter, restricted, permittedNow}
 use Rattle.engine.specs.rules.Working.{followsBid, lifeOf, workingPrice, orderOf}
 use Rattle.engine.specs.rules.Pass.{slideDown, moveOf, passOver}

@@ -9,7 +9,7 @@ use Rattle.numbers.specs.Tests.{pick, conj}
 use Rattle.numbers.specs.Answers.{Outcome, gives, refuses}
 use Rattle.engine.specs.declared.Entry.{Entry}
 use Rattle.engine.specs.declared.Event.{Event}
-use Rattle.engine.specs.declared.Event.the-variants.{Entry as entry, Cancel as cancel, Bid as bid, Tape as tape, DayEnd as dayEnd, OwnedEntry as ownedEntry}
+use Rattle.engine.specs.declared.Event.the-variants.{Entry as entry, Cancel as cancel, Bid as bid, Tape as tape, DayEnd as dayEnd, OwnedEntry as ownedEntry, TimedTape as timedTape}
 use Rattle.engine.specs.rules.Reports.{Report}
 use Rattle.engine.specs.rules.Venue.{Venue}
 use Rattle.engine.specs.rules.Refusals.{refuseUnless, firstOf, refusalOfTerms, refusalOfCodes, refusalOfOwner, refusalOfPlace, refusalOfEntry, refusalOfKind, refusal}

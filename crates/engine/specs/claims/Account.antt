@@ -11,9 +11,9 @@ use Rattle.book.specs.rules.Matching.{Execution}
 use Rattle.engine.specs.declared.Market.{Market}
 use Rattle.engine.specs.declared.Entry.{Entry}
 use Rattle.engine.specs.declared.Event.{Event}
-use Rattle.engine.specs.declared.Event.the-variants.{Entry as entry, Cancel as cancel, Bid as bid, Tape as tape, DayEnd as dayEnd, OwnedEntry as ownedEntry}
+use Rattle.engine.specs.declared.Event.the-variants.{Entry as entry, Cancel as cancel, Bid as bid, Tape as tape, DayEnd as dayEnd, OwnedEntry as ownedEntry, TimedTape as timedTape}
 use Rattle.engine.specs.rules.Market.{openingMarket, marketAfter}
-use Rattle.engine.specs.rules.Reports.{Report, accepted, executed, cancelled, repriced, restrictionStarts, dayEnded}
+use Rattle.engine.specs.rules.Reports.{Report, accepted, executed, cancelled, repriced, restrictionStarts, dayEnded, pauseTriggered}
 use Rattle.engine.specs.rules.Run.{Answered}
 
 -- one side of an execution, as the account has it at that moment: the market then, the price, the order's mark and show, whether it was
@@ -93,6 +93,7 @@ talliesAfter (bid b) c = c
 talliesAfter (tape p) c = c
 talliesAfter (dayEnd x) c = c
 talliesAfter (ownedEntry e k) c = startTally e c
+talliesAfter (timedTape x) c = c
 
 -- "Report 1 or 4 notes its price and that bid in the tally of its id, as last given; that order is now the working one"
 abbrev pub givePrice : ℕ → ℕ → ℕ → Tallies → Tallies
@@ -160,6 +161,7 @@ readReport m c (executed x) = readExecution m c x
 readReport m c (cancelled k q z) = readCancelled k q c
 readReport m c restrictionStarts = c
 readReport m c (dayEnded p) = c
+readReport m c (pauseTriggered d p) = c
 
 -- one event with its answer: "A refused event changes nothing"
 abbrev pub accountAfter : Account → Event → Outcome (List Report) → Account

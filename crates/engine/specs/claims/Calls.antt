@@ -30,10 +30,11 @@ pub record Opens (s close : ℕ) (answer : OpenAnswer) (words : List ℕ) : Type
 
 -- Apply
 
--- what no event changes: the length, the step, the spare words and the number of the layout, the words behind the venue
+-- what no event changes: the length, the step, the spare words and the number of the layout, the words behind the venue; word 8 counts the kept prices
 pub record SameSpare (w w′ : List ℕ) : Type 0 where
   pub size : length w′ ≡ length w
-  pub spare : (j : ℕ) → 7 ≤ j → j < headerWords → getD w′ j 0 ≡ getD w j 0
+  pub step : getD w′ 7 0 ≡ getD w 7 0
+  pub spare : (j : ℕ) → 9 ≤ j → j < headerWords → getD w′ j 0 ≡ getD w j 0
   pub behind : (j : ℕ) → venueWords ≤ j → getD w′ j 0 ≡ getD w j 0
 
 -- the refusal of an answer

@@ -13,8 +13,8 @@ use Rattle.prices.specs.Watch.{watchOutcome}
 use Rattle.book.specs.declared.Order.{Order}
 use Rattle.book.specs.declared.FrontRead.{FrontRead}
 use Rattle.engine.specs.declared.Event.{Event}
-use Rattle.engine.specs.declared.Event.the-variants.{Entry as entry, Cancel as cancel, Bid as bid, Tape as tape, DayEnd as dayEnd, OwnedEntry as ownedEntry}
-use Rattle.engine.specs.rules.Reports.{Report, accepted, executed, cancelled, repriced, restrictionStarts, dayEnded}
+use Rattle.engine.specs.declared.Event.the-variants.{Entry as entry, Cancel as cancel, Bid as bid, Tape as tape, DayEnd as dayEnd, OwnedEntry as ownedEntry, TimedTape as timedTape}
+use Rattle.engine.specs.rules.Reports.{Report, accepted, executed, cancelled, repriced, restrictionStarts, dayEnded, pauseTriggered}
 use Rattle.engine.specs.rules.Venue.{Venue, opened, opening}
 use Rattle.engine.specs.rules.Refusals.{leastBuffer}
 use Rattle.engine.specs.rules.Run.{Call, Answered, step, run}
@@ -241,7 +241,7 @@ halfCentFillAnswers = yes 4 ∷ yes 4 ∷ no 4 ∷ yes 4 ∷ no 4 ∷ refuses 3 
 -- no orders, in a phase, after so many accepted events
 abbrev pub emptyVenue : ℕ → ℕ → Venue
 emptyVenue phase events =
-    record { market = record { close = 100_000; phase = phase; bid = 91_000; step = 100 }; orders = []; lastId = 0; lastStamp = 0; acceptedEvents = events }
+    record { market = record { close = 100_000; phase = phase; bid = 91_000; step = 100 }; orders = []; kept = []; lastId = 0; lastStamp = 0; acceptedEvents = events }
 
 abbrev pub venueAfterAt : ℕ → List Event → Venue
 venueAfterAt s es = (run (opened s 100_000) (map callOf es)) .venue
@@ -333,6 +333,7 @@ venueOfBuys n s phase b owner =
     record {
       market = record { close = 100_000; phase = phase; bid = b; step = s };
       orders = buysFrom owner 1 n;
+      kept = [];
       lastId = n;
       lastStamp = n;
       acceptedEvents = n;

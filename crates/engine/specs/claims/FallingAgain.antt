@@ -15,9 +15,9 @@ use Rattle.prices.specs.Restriction.{triggers, restrictionOn}
 use Rattle.prices.specs.FallingAgain.{phaseBefore}
 use Rattle.engine.specs.declared.Market.{Market}
 use Rattle.engine.specs.declared.Event.{Event}
-use Rattle.engine.specs.declared.Event.the-variants.{Entry as entry, Cancel as cancel, Bid as bid, Tape as tape, DayEnd as dayEnd, OwnedEntry as ownedEntry}
+use Rattle.engine.specs.declared.Event.the-variants.{Entry as entry, Cancel as cancel, Bid as bid, Tape as tape, DayEnd as dayEnd, OwnedEntry as ownedEntry, TimedTape as timedTape}
 use Rattle.engine.specs.rules.Market.{marketAfter}
-use Rattle.engine.specs.rules.Reports.{Report, accepted, executed, cancelled, repriced, restrictionStarts, dayEnded}
+use Rattle.engine.specs.rules.Reports.{Report, accepted, executed, cancelled, repriced, restrictionStarts, dayEnded, pauseTriggered}
 use Rattle.engine.specs.rules.Pass.{Effect}
 use Rattle.engine.specs.rules.Venue.{Venue, opening, thePass}
 use Rattle.engine.specs.rules.Sound.{mostEvents, sound}
@@ -42,6 +42,7 @@ tapeStep first k v =
           record {
             market = inPhase k (v .market);
             orders = x.orders;
+            kept = v.kept;
             lastId = v.lastId;
             lastStamp = x.stamp;
             acceptedEvents = v.acceptedEvents + 1;
@@ -102,14 +103,18 @@ pub record Falls : Type 0 where
 abbrev pub noFalls : ℕ → Falls
 noFalls close = record { close = close; today = false; dayBefore = false }
 
+abbrev pub pricedAt : ℕ → Falls → Falls
+pricedAt p f = record { close = f.close; today = f .today || triggers (f .close) p; dayBefore = f.dayBefore }
+
 -- an accepted event
 abbrev pub fallsAfter : Event → Falls → Falls
 fallsAfter (entry e) f = f
 fallsAfter (cancel i) f = f
 fallsAfter (bid b) f = f
-fallsAfter (tape p) f = record { close = f.close; today = f .today || triggers (f .close) p; dayBefore = f.dayBefore }
+fallsAfter (tape p) f = pricedAt p f
 fallsAfter (dayEnd c) f = record { close = c; today = false; dayBefore = f.today }
 fallsAfter (ownedEntry e k) f = f
+fallsAfter (timedTape x) f = pricedAt (x .price) f
 
 -- "A refused event changes nothing"
 abbrev pub fallsAnswered : Falls → Event → Outcome (List Report) → Falls
@@ -123,15 +128,19 @@ fallsFrom f xs = foldl (λ (g : Falls) (x : Answered). fallsAnswered g (x .event
 abbrev pub phaseBy : Falls → ℕ
 phaseBy f = pick (f .today) 1 (pick (f .dayBefore) 2 0)
 
+abbrev pub firstFall : ℕ → Falls → List Report
+firstFall p f = pick (not (f .today) && triggers (f .close) p) (restrictionStarts ∷ []) []
+
 -- the reports 5 and 6 that an accepted event is to have: 5 for the first tape price of a day that meets the trigger; 6 with phase 2 at the end of a day that had
 -- one, and with phase 0 at the end of any other
 abbrev pub phaseReportsDue : Event → Falls → List Report
 phaseReportsDue (entry e) f = []
 phaseReportsDue (cancel i) f = []
 phaseReportsDue (bid b) f = []
-phaseReportsDue (tape p) f = pick (not (f .today) && triggers (f .close) p) (restrictionStarts ∷ []) []
+phaseReportsDue (tape p) f = firstFall p f
 phaseReportsDue (dayEnd c) f = dayEnded (pick (f .today) 2 0) ∷ []
 phaseReportsDue (ownedEntry e k) f = []
+phaseReportsDue (timedTape x) f = firstFall (x .price) f
 
 -- the reports 5 and 6 among reports
 abbrev pub phaseReports : List Report → List Report
@@ -142,6 +151,7 @@ phaseReports (cancelled i q z ∷ rs) = phaseReports rs
 phaseReports (repriced i p s ∷ rs) = phaseReports rs
 phaseReports (restrictionStarts ∷ rs) = restrictionStarts ∷ phaseReports rs
 phaseReports (dayEnded k ∷ rs) = dayEnded k ∷ phaseReports rs
+phaseReports (pauseTriggered d p ∷ rs) = phaseReports rs
 
 -- each accepted event of the list has those that are due
 abbrev pub ReportsPhase : Falls → Event → Outcome (List Report) → Type 0

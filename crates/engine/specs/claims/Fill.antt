@@ -17,7 +17,7 @@ use Rattle.book.specs.rules.Words.{resting}
 use Rattle.engine.specs.declared.Entry.{Entry}
 use Rattle.engine.specs.declared.Event.the-variants.{Entry as entry}
 use Rattle.engine.specs.declared.FillAnswer.{FillAnswer}
-use Rattle.engine.specs.rules.Reports.{Report, accepted, executed, cancelled, repriced, restrictionStarts, dayEnded}
+use Rattle.engine.specs.rules.Reports.{Report, accepted, executed, cancelled, repriced, restrictionStarts, dayEnded, pauseTriggered}
 use Rattle.engine.specs.rules.Venue.{Venue, opening, effectOfEntry}
 use Rattle.engine.specs.rules.Sound.{mostOrders, mostEvents, sound}
 use Rattle.engine.specs.rules.Refusals.{refuseUnless, refusalOfKind, leastBuffer}
@@ -123,6 +123,7 @@ executedBy k (cancelled i q z) = 0
 executedBy k (repriced i p s) = 0
 executedBy k restrictionStarts = 0
 executedBy k (dayEnded p) = 0
+executedBy k (pauseTriggered d p) = 0
 
 unfoldable pub executedFor : ℕ → List Report → ℕ
 executedFor k [] = 0

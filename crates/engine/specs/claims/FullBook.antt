@@ -15,7 +15,7 @@ use Rattle.book.specs.rules.Words.{resting}
 use Rattle.engine.specs.declared.Market.{Market}
 use Rattle.engine.specs.declared.Entry.{Entry}
 use Rattle.engine.specs.declared.Event.{Event}
-use Rattle.engine.specs.declared.Event.the-variants.{Entry as entry, Cancel as cancel, Bid as bid, Tape as tape, DayEnd as dayEnd, OwnedEntry as ownedEntry}
+use Rattle.engine.specs.declared.Event.the-variants.{Entry as entry, Cancel as cancel, Bid as bid, Tape as tape, DayEnd as dayEnd, OwnedEntry as ownedEntry, TimedTape as timedTape}
 use Rattle.engine.specs.rules.Market.{restricted}
 use Rattle.engine.specs.rules.Reports.{Report}
 use Rattle.engine.specs.rules.Working.{isMarket}
@@ -42,6 +42,7 @@ eventNeedsNoPlace m (cancel i) = false
 eventNeedsNoPlace m (bid b) = false
 eventNeedsNoPlace m (tape p) = false
 eventNeedsNoPlace m (dayEnd c) = false
+eventNeedsNoPlace m (timedTape x) = false
 eventNeedsNoPlace m (ownedEntry e k) = needsNoPlace m e
 
 -- As before

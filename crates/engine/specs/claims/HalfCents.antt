@@ -11,13 +11,14 @@ use Rattle.numbers.specs.Tests.{pick, conj, every}
 use Rattle.numbers.specs.Answers.{gives, refuses}
 use Rattle.prices.specs.Prices.{isStep, permitted}
 use Rattle.prices.specs.HalfCents.{legalBefore, isBidBefore, permittedBefore}
+use Rattle.prices.specs.Pause.{soundKept}
 use Rattle.book.specs.declared.Order.{Order}
 use Rattle.book.specs.rules.Orders.{find}
 use Rattle.book.specs.rules.Sound.{mostShares, mostOwner, slideAllowed, marketAllowed, idsRise, stampsDiffer}
 use Rattle.engine.specs.declared.Market.{Market}
 use Rattle.engine.specs.declared.Entry.{Entry}
 use Rattle.engine.specs.declared.Event.{Event}
-use Rattle.engine.specs.declared.Event.the-variants.{Entry as entry, Cancel as cancel, Bid as bid, Tape as tape, DayEnd as dayEnd, OwnedEntry as ownedEntry}
+use Rattle.engine.specs.declared.Event.the-variants.{Entry as entry, Cancel as cancel, Bid as bid, Tape as tape, DayEnd as dayEnd, OwnedEntry as ownedEntry, TimedTape as timedTape}
 use Rattle.engine.specs.declared.Move.{Move}
 use Rattle.engine.specs.declared.Move.the-variants.{Stay, Cancel, Reprice}
 use Rattle.engine.specs.rules.Market.{marketAfter, restricted}
@@ -25,10 +26,11 @@ use Rattle.engine.specs.rules.Working.{isMarket, limitOf, workingPrice}
 use Rattle.engine.specs.rules.Pass.{displayedClear, moveDown, slideOnce, maySlide, moveOf}
 use Rattle.engine.specs.rules.Venue.{Venue, opened, opening, effectOf}
 use Rattle.engine.specs.rules.Sound.{mostOrders, mostEvents}
-use Rattle.engine.specs.rules.Refusals.{refuseUnless, firstOf, refusalOfCodes, refusalOfOwner, refusalOfPlace, rests, leastBuffer, refusal}
+use Rattle.engine.specs.rules.Refusals.{refuseUnless, firstOf, refusalOfCodes, refusalOfOwner, refusalOfPlace, refusalOfTime, rests, leastBuffer, refusal}
 use Rattle.engine.specs.rules.Run.{step}
 
--- Before No. 2: the parts of an event that look at a price, a bid or a permitted price, with document 01's; codes, owner and place are those of now
+-- Before No. 2: the parts of an event that look at a price, a bid or a permitted price, with document 01's; codes, owner, place, and kept prices and
+-- their times are those of now
 
 -- the conditions of a venue record (16)
 abbrev pub orderBefore : ℕ → ℕ → Order → Bool
@@ -41,7 +43,7 @@ orderBefore lastId lastStamp o =
 abbrev pub soundBefore : Venue → Bool
 soundBefore v =
     conj
-    (leb (length (v .orders)) mostOrders ∷ idsRise 0 (v .orders) ∷ every (orderBefore (v .lastId) (v .lastStamp)) (v .orders) ∷ stampsDiffer (v .orders)
+    (leb (length (v .orders)) mostOrders ∷ idsRise 0 (v .orders) ∷ every (orderBefore (v .lastId) (v .lastStamp)) (v .orders) ∷ stampsDiffer (v .orders) ∷ soundKept 100 (v .kept)
     ∷ leb (v.market.phase) 2 ∷ legalBefore (v.market.close) ∷ isBidBefore (v.market.bid) ∷ leb (v .acceptedEvents) mostEvents
     ∷ leb (v .lastStamp) (256 * v.acceptedEvents) ∷ [])
 
@@ -62,6 +64,7 @@ refusalBefore v (bid b) = refuseUnless (isBidBefore b) 3 none
 refusalBefore v (tape p) = refuseUnless (legalBefore p) 3 none
 refusalBefore v (dayEnd c) = refuseUnless (legalBefore c) 3 none
 refusalBefore v (ownedEntry e k) = refusalOfEntryBefore v e (refusalOfOwner k)
+refusalBefore v (timedTape x) = refuseUnless (legalBefore (x .price)) 3 (refusalOfTime (v .kept) (x .time))
 
 -- the price that an entry works at
 abbrev pub workingBefore : Market → ℕ → ℕ → ℕ
@@ -94,7 +97,7 @@ abbrev pub withStep : ℕ → Market → Market
 withStep s m = record { close = m.close; phase = m.phase; bid = m.bid; step = s }
 
 abbrev pub venueWithStep : ℕ → Venue → Venue
-venueWithStep s v = record { market = withStep s (v .market); orders = v.orders; lastId = v.lastId; lastStamp = v.lastStamp; acceptedEvents = v.acceptedEvents }
+venueWithStep s v = record { market = withStep s (v .market); orders = v.orders; kept = v.kept; lastId = v.lastId; lastStamp = v.lastStamp; acceptedEvents = v.acceptedEvents }
 
 abbrev pub ByPermittedPrice : Type 0
 ByPermittedPrice =

@@ -15,7 +15,7 @@ use Rattle.book.specs.rules.Words.{resting}
 use Rattle.engine.specs.declared.Market.{Market}
 use Rattle.engine.specs.declared.Entry.{Entry}
 use Rattle.engine.specs.declared.Event.{Event}
-use Rattle.engine.specs.declared.Event.the-variants.{Entry as entry, Cancel as cancel, Bid as bid, Tape as tape, DayEnd as dayEnd, OwnedEntry as ownedEntry}
+use Rattle.engine.specs.declared.Event.the-variants.{Entry as entry, Cancel as cancel, Bid as bid, Tape as tape, DayEnd as dayEnd, OwnedEntry as ownedEntry, TimedTape as timedTape}
 use Rattle.engine.specs.declared.Move.{Move}
 use Rattle.engine.specs.declared.Move.the-variants.{Stay, Cancel, Reprice}
 use Rattle.engine.specs.rules.Market.{marketAfter, restricted, permittedNow}
@@ -115,6 +115,7 @@ runsPass (cancel i) = false
 runsPass (bid b) = true
 runsPass (tape p) = true
 runsPass (dayEnd c) = false
+runsPass (timedTape x) = true
 runsPass (ownedEntry e k) = false
 
 -- "With no bid a resting market short stays where it is": after a bid or tape event that leaves no bid it rests as it did, in every field

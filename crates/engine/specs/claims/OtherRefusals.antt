@@ -7,7 +7,7 @@ use Rattle.numbers.specs.Tests.{pick}
 use Rattle.book.specs.rules.Words.{isBook}
 use Rattle.engine.specs.declared.Entry.{Entry}
 use Rattle.engine.specs.declared.Event.{Event}
-use Rattle.engine.specs.declared.Event.the-variants.{Entry as entry, Cancel as cancel, Bid as bid, Tape as tape, DayEnd as dayEnd, OwnedEntry as ownedEntry}
+use Rattle.engine.specs.declared.Event.the-variants.{Entry as entry, Cancel as cancel, Bid as bid, Tape as tape, DayEnd as dayEnd, OwnedEntry as ownedEntry, TimedTape as timedTape}
 use Rattle.engine.specs.rules.Venue.{Venue}
 use Rattle.engine.specs.rules.Sound.{mostEvents, sound}
 use Rattle.engine.specs.rules.Refusals.{refuseUnless, refusalOfOwner, refusalOfKind, leastBuffer}
@@ -26,6 +26,7 @@ kindWith ofEntry v (bid b) = refusalOfKind v (bid b)
 kindWith ofEntry v (tape p) = refusalOfKind v (tape p)
 kindWith ofEntry v (dayEnd c) = refusalOfKind v (dayEnd c)
 kindWith ofEntry v (ownedEntry e k) = ofEntry v e (refusalOfOwner k)
+kindWith ofEntry v (timedTape x) = refusalOfKind v (timedTape x)
 
 abbrev pub refusalWith : EntryRefusals → Venue → Event → ℕ → Option ℕ
 refusalWith ofEntry v x n =

@@ -10,6 +10,7 @@ use lib.ListN.{length}
 use Rattle.numbers.specs.Tests.{pick, All}
 use Rattle.numbers.specs.Answers.{Outcome, gives, refuses}
 use Rattle.prices.specs.Prices.{isStep, legal}
+use Rattle.prices.specs.Pause.{within}
 use Rattle.book.specs.declared.Order.{Order}
 use Rattle.book.specs.rules.Orders.{find, without}
 use Rattle.book.specs.rules.Matching.{Execution, Matched}
@@ -20,14 +21,14 @@ use Rattle.book.specs.claims.OwnOrders.{others, executionsOf}
 use Rattle.engine.specs.declared.Market.{Market}
 use Rattle.engine.specs.declared.Entry.{Entry}
 use Rattle.engine.specs.declared.Event.{Event}
-use Rattle.engine.specs.declared.Event.the-variants.{Entry as entry, Cancel as cancel, Bid as bid, Tape as tape, DayEnd as dayEnd, OwnedEntry as ownedEntry}
+use Rattle.engine.specs.declared.Event.the-variants.{Entry as entry, Cancel as cancel, Bid as bid, Tape as tape, DayEnd as dayEnd, OwnedEntry as ownedEntry, TimedTape as timedTape}
 use Rattle.engine.specs.declared.Move.{Move}
 use Rattle.engine.specs.declared.Move.the-variants.{Stay, Cancel, Reprice}
 use Rattle.engine.specs.rules.Market.{marketAfter, restricted}
-use Rattle.engine.specs.rules.Reports.{Report, accepted, executed, cancelled, repriced, restrictionStarts, dayEnded}
+use Rattle.engine.specs.rules.Reports.{Report, accepted, executed, cancelled, repriced, restrictionStarts, dayEnded, pauseTriggered}
 use Rattle.engine.specs.rules.Working.{Worked, orderOf, remainder, afterRemainder, happened}
 use Rattle.engine.specs.rules.Pass.{moveOf, atNewPrice, Effect, afterMove}
-use Rattle.engine.specs.rules.Venue.{Venue, opening, effectOfCancel, restrictionReport, effectOfDayEnd, effectOf, venueAfter}
+use Rattle.engine.specs.rules.Venue.{Venue, opening, effectOfCancel, restrictionReport, pauseReport, effectOfDayEnd, effectOf, venueAfter}
 use Rattle.engine.specs.rules.Refusals.{refusal}
 use Rattle.engine.specs.rules.Run.{Step, step, Call, Answered, Run, run}
 use Rattle.engine.specs.rules.Records.{reportsUpTo}
@@ -97,6 +98,7 @@ readOwners c (cancelled k q cause) =
 readOwners c (repriced k p s) = worksNow k c
 readOwners c restrictionStarts = c
 readOwners c (dayEnded p) = c
+readOwners c (pauseTriggered d p) = c
 
 -- the account of events with their answers
 abbrev pub readingOwners : Reading Owners
@@ -183,15 +185,21 @@ unownedPass m (i ∷ is) os s =
 abbrev pub unownedPassOfAll : Market → Venue → Effect
 unownedPassOfAll m v = unownedPass m (map (λ (o : Order). o .id) (v .orders)) (v .orders) (v .lastStamp)
 
+abbrev pub unownedTape : Market → Venue → Effect
+unownedTape m v =
+    let x : Effect = unownedPassOfAll m v in
+    record { reports = restrictionReport (v .market) m ++ x.reports; orders = x.orders; stamp = x.stamp }
+
 abbrev pub unownedEffect : Market → Venue → Event → Effect
 unownedEffect m v (entry e) = unownedEntering (orderOf m (v .lastStamp + 1) 0 e) (v .orders)
 unownedEffect m v (cancel i) = effectOfCancel v i
 unownedEffect m v (bid b) = unownedPassOfAll m v
-unownedEffect m v (tape p) =
-    let x : Effect = unownedPassOfAll m v in
-    record { reports = restrictionReport (v .market) m ++ x.reports; orders = x.orders; stamp = x.stamp }
+unownedEffect m v (tape p) = unownedTape m v
 unownedEffect m v (dayEnd c) = effectOfDayEnd m v
 unownedEffect m v (ownedEntry e k) = effectOf m v (ownedEntry e k)
+unownedEffect m v (timedTape t) =
+    let x : Effect = unownedTape m v in
+    record { reports = pauseReport (t .price) (within (t .time) (v .kept)) ++ x.reports; orders = x.orders; stamp = x.stamp }
 
 unfoldable pub unownedUnless : Option ℕ → Venue → Event → Step
 unownedUnless (some n) v e = record { answer = refuses n; venue = v }
@@ -214,6 +222,7 @@ NamesNoOwner (bid b) = Unit {0}
 NamesNoOwner (tape p) = Unit {0}
 NamesNoOwner (dayEnd c) = Unit {0}
 NamesNoOwner (ownedEntry e k) = ⊥
+NamesNoOwner (timedTape x) = Unit {0}
 
 -- its answer and its venue are those of before, and owner 0 stays everywhere
 pub record EventAsBefore (v : Venue) (e : Event) (n : ℕ) : Type 0 where
@@ -251,6 +260,7 @@ executionsIn (cancelled i q cause ∷ rs) = executionsIn rs
 executionsIn (repriced i p s ∷ rs) = executionsIn rs
 executionsIn (restrictionStarts ∷ rs) = executionsIn rs
 executionsIn (dayEnded p ∷ rs) = executionsIn rs
+executionsIn (pauseTriggered d p ∷ rs) = executionsIn rs
 
 -- those of an order that works and only trades, in a book without the orders of its owner
 abbrev pub executionsWithoutOwn : Order → List Order → List Execution

@@ -5,7 +5,7 @@ use mathlib.Core.Option.{Option, none, some}
 use Rattle.numbers.specs.Answers.{Outcome, gives, refuses}
 use Rattle.engine.specs.declared.Entry.{Entry}
 use Rattle.engine.specs.declared.Event.{Event}
-use Rattle.engine.specs.declared.Event.the-variants.{Entry as entry, Cancel as cancel, Bid as bid, Tape as tape, DayEnd as dayEnd, OwnedEntry as ownedEntry}
+use Rattle.engine.specs.declared.Event.the-variants.{Entry as entry, Cancel as cancel, Bid as bid, Tape as tape, DayEnd as dayEnd, OwnedEntry as ownedEntry, TimedTape as timedTape}
 use Rattle.engine.specs.rules.Reports.{Report}
 use Rattle.engine.specs.rules.Run.{Answered}
 
@@ -21,6 +21,7 @@ enteredBy (bid b) = none
 enteredBy (tape p) = none
 enteredBy (dayEnd c) = none
 enteredBy (ownedEntry e k) = some (record { entry = e; owner = k })
+enteredBy (timedTape x) = none
 
 -- what an accepted event does to an account before its reports, by the entry that it is or by being none, and what a report does
 pub record Reading (A : Type 0) : Type 0 where

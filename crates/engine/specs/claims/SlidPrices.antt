@@ -13,7 +13,7 @@ use Rattle.book.specs.declared.Order.{Order}
 use Rattle.book.specs.rules.Words.{resting}
 use Rattle.engine.specs.declared.Market.{Market}
 use Rattle.engine.specs.declared.Entry.{Entry}
-use Rattle.engine.specs.rules.Reports.{Report, accepted, executed, cancelled, repriced, restrictionStarts, dayEnded}
+use Rattle.engine.specs.rules.Reports.{Report, accepted, executed, cancelled, repriced, restrictionStarts, dayEnded, pauseTriggered}
 use Rattle.engine.specs.rules.Working.{orderOf}
 use Rattle.engine.specs.rules.Venue.{Venue, opening}
 use Rattle.engine.specs.rules.Run.{Call, Answered, Run, run}
@@ -67,6 +67,7 @@ readPrice c (cancelled k q z) = c
 readPrice c (repriced k p s) = setAt k (repricedTo p (c k)) c
 readPrice c restrictionStarts = c
 readPrice c (dayEnded p) = c
+readPrice c (pauseTriggered d p) = c
 
 abbrev pub readingPrices : Reading Prices
 readingPrices = record { begin = startPrices; read = readPrice }

@@ -5,7 +5,7 @@ use mathlib.Core.Path.{_≡_}
 use mathlib.Core.List.{List, [], _∷_}
 use mathlib.Core.Logic.{_⊎_}
 use Rattle.book.specs.rules.Matching.{Execution}
-use Rattle.engine.specs.rules.Reports.{Report, accepted, executed, cancelled, repriced, restrictionStarts, dayEnded}
+use Rattle.engine.specs.rules.Reports.{Report, accepted, executed, cancelled, repriced, restrictionStarts, dayEnded, pauseTriggered}
 use Rattle.engine.specs.rules.Run.{Answered}
 use Rattle.engine.specs.claims.Account.{setAt}
 use Rattle.engine.specs.claims.Reading.{Reading, readFrom}
@@ -46,6 +46,7 @@ readStamp c (cancelled k q z) = c
 readStamp c (repriced k p s) = giveStamp k s c
 readStamp c restrictionStarts = c
 readStamp c (dayEnded p) = c
+readStamp c (pauseTriggered d p) = c
 
 abbrev pub readingStamps : Reading Stamps
 readingStamps = record { begin = λ x c. noneWorks c; read = readStamp }

@@ -6,7 +6,7 @@ use lib.ListN.{length}
 use Rattle.numbers.specs.Answers.{Outcome, gives, refuses}
 use Rattle.numbers.specs.SevenBit.{overwrite}
 use Rattle.engine.specs.declared.Refusal.{Refusal}
-use Rattle.engine.specs.declared.Refusal.the-variants.{BufferTooShort, EventsSpent, PriceNotLegal, SharesOutOfRange, ShowOrLifeOutOfRange, IdNotNew, BookFull, NotResting, VenueBroken, NotStep, MarkOutOfRange, SlideOutOfRange, SlideOnWrongMark, OwnerOutOfRange}
+use Rattle.engine.specs.declared.Refusal.the-variants.{BufferTooShort, EventsSpent, PriceNotLegal, SharesOutOfRange, ShowOrLifeOutOfRange, IdNotNew, BookFull, NotResting, VenueBroken, NotStep, MarkOutOfRange, SlideOutOfRange, SlideOnWrongMark, OwnerOutOfRange, TimeBeforeLast, KeptPricesFull}
 use Rattle.engine.specs.declared.MayRefuse.{MayRefuse}
 use Rattle.engine.specs.declared.MayRefuse.the-variants.{Refuse, Allow}
 use Rattle.engine.specs.declared.Answer.{Answer}
@@ -30,6 +30,8 @@ refusalNumber MarkOutOfRange = 18
 refusalNumber SlideOutOfRange = 19
 refusalNumber SlideOnWrongMark = 20
 refusalNumber OwnerOutOfRange = 21
+refusalNumber TimeBeforeLast = 22
+refusalNumber KeptPricesFull = 23
 
 -- the paper's terms for what the refusals say of an event
 abbrev pub refusedWith : MayRefuse → Option ℕ

@@ -6,7 +6,8 @@ use lib.ListN.{getD, set, replicate}
 use Rattle.numbers.specs.Tests.{pick}
 use Rattle.numbers.specs.Answers.{Outcome, gives, refuses}
 use Rattle.prices.specs.Prices.{isStep, legal}
-use Rattle.book.specs.rules.Words.{venueWords, layoutNumber, layoutWord, resting, isBook}
+use Rattle.prices.specs.KeptWords.{keptIn}
+use Rattle.book.specs.rules.Words.{bookWords, venueWords, layoutNumber, layoutWord, resting, isBook}
 use Rattle.engine.specs.declared.Event.{Event}
 use Rattle.engine.specs.declared.OpenAnswer.{OpenAnswer}
 use Rattle.engine.specs.declared.OpenAnswer.the-variants.{Fresh, NotOpened}
@@ -15,12 +16,13 @@ use Rattle.engine.specs.rules.Sound.{sound}
 use Rattle.engine.specs.rules.Run.{Step, step}
 use Rattle.engine.specs.rules.Answers.{refusalNumber}
 
--- header words 1 to 7, and the orders; words 8 to 14 are spare, and word 15 is the number of the layout
+-- header words 1 to 7, the orders, and the kept prices behind them, which word 8 counts; words 9 to 14 are spare, and word 15 is the number of the layout
 unfoldable pub venueOf : List ℕ → Venue
 venueOf w =
     record {
       market = record { close = getD w 1 0; phase = getD w 2 0; bid = getD w 3 0; step = getD w 7 0 };
       orders = resting w;
+      kept = keptIn w bookWords (getD w 8 0);
       lastId = getD w 4 0;
       lastStamp = getD w 5 0;
       acceptedEvents = getD w 6 0;

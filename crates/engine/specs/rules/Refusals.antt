@@ -1,16 +1,19 @@
--- The refusals of an event and of a question, in their order: document 01, "Operations", and document 02, No. 1 to No. 4, No. 7 and No. 8. Assumes nothing.
+-- The refusals of an event and of a question, in their order: document 01, "Operations", and document 02, No. 1 to No. 4, No. 7, No. 8 and No. 10. Assumes nothing.
 use Prim.Native.Nat.{ℕ}
 use mathlib.Core.Bool.{Bool, true, false, _||_}
+use mathlib.Core.List.{List}
 use mathlib.Core.Option.{Option, none, some}
 use lib.Dec.{leb, ltb, eqb}
 use lib.ListN.{length}
+use Rattle.prices.specs.declared.TimedPrice.{TimedPrice}
 use Rattle.prices.specs.Prices.{legal, isBid}
+use Rattle.prices.specs.Pause.{mostKept, within, lastTime}
 use Rattle.book.specs.declared.Order.{Order}
 use Rattle.book.specs.rules.Orders.{find}
 use Rattle.engine.specs.declared.Market.{Market}
 use Rattle.engine.specs.declared.Entry.{Entry}
 use Rattle.engine.specs.declared.Event.{Event}
-use Rattle.engine.specs.declared.Event.the-variants.{Entry as entry, Cancel as cancel, Bid as bid, Tape as tape, DayEnd as dayEnd, OwnedEntry as ownedEntry}
+use Rattle.engine.specs.declared.Event.the-variants.{Entry as entry, Cancel as cancel, Bid as bid, Tape as tape, DayEnd as dayEnd, OwnedEntry as ownedEntry, TimedTape as timedTape}
 use Rattle.engine.specs.rules.Working.{isMarket, lifeOf}
 use Rattle.engine.specs.rules.Venue.{Venue}
 use Rattle.book.specs.rules.Sound.{mostShares, mostOwner}
@@ -93,6 +96,13 @@ unfoldable pub rests : Option Order → Bool
 rests none = false
 rests (some o) = true
 
+-- No. 10: "Checked after the price: time before the last one of the day is 22, and a 513th kept price is 23"; what the new time drops isn't counted
+unfoldable pub refusalOfTime : List TimedPrice → ℕ → Option ℕ
+refusalOfTime kept t =
+    refuseUnless (leb (lastTime kept) t) 22
+    (refuseUnless (ltb (length (within t kept)) mostKept) 23
+    none)
+
 -- the refusals of each kind of event: an entry's, a cancel's "8 if the id doesn't rest", "3 for a bid that isn't a bid, or a tape price or
 -- close that isn't legal", all at the venue's step (No. 2)
 unfoldable pub refusalOfKind : Venue → Event → Option ℕ
@@ -102,6 +112,7 @@ refusalOfKind v (bid b) = refuseUnless (isBid (v.market.step) b) 3 none
 refusalOfKind v (tape p) = refuseUnless (legal (v.market.step) p) 3 none
 refusalOfKind v (dayEnd c) = refuseUnless (legal (v.market.step) c) 3 none
 refusalOfKind v (ownedEntry e k) = refusalOfEntry v e (refusalOfOwner k)
+refusalOfKind v (timedTape x) = refuseUnless (legal (v.market.step) (x .price)) 3 (refusalOfTime (v .kept) (x .time))
 
 -- "16 if the venue record breaks a condition .. Then 1 if the buffer has under 16,384 bytes; 2 if 16,777,215 events were accepted", then
 -- the kind's own; n is the length of the lent report buffer

@@ -1,4 +1,4 @@
--- Reports: document 01, "Reports, in the order of happening", and document 02, No. 7. Assumes nothing.
+-- Reports: document 01, "Reports, in the order of happening", and document 02, No. 7 and No. 10. Assumes nothing.
 use Prim.Native.Nat.{ℕ}
 use Rattle.book.specs.rules.Matching.{Execution}
 
@@ -15,6 +15,8 @@ pub data Report : Type 0 where
   restrictionStarts : Report
   -- 6: new phase
   dayEnded : ℕ → Report
+  -- 7 (No. 10): direction, 1 a fall and 2 a rise, and the price
+  pauseTriggered : ℕ → ℕ → Report
 
 -- the causes of report 3: "1 asked for, others above"
 abbrev pub askedFor : ℕ

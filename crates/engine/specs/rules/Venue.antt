@@ -1,33 +1,36 @@
 -- The venue, and what an accepted event does to it: document 01, "Orders", "Reports" and "Operations", and document 02,
--- No. 1, No. 2, No. 6 and No. 7. Assumes nothing.
+-- No. 1, No. 2, No. 6, No. 7 and No. 10. Assumes nothing.
 use Prim.Native.Nat.{ℕ, _+_}
 use mathlib.Core.List.{List, [], _∷_, _++_, map}
 use lib.Dec.{eqb}
 use Rattle.numbers.specs.Tests.{pick}
 use Rattle.numbers.specs.Answers.{Outcome, gives, refuses}
+use Rattle.prices.specs.declared.TimedPrice.{TimedPrice}
 use Rattle.prices.specs.Prices.{legal, atStep}
+use Rattle.prices.specs.Pause.{within, keeping, direction}
 use Rattle.book.specs.declared.Order.{Order}
 use Rattle.book.specs.rules.Orders.{restingShares, without}
 use Rattle.engine.specs.declared.Market.{Market}
 use Rattle.engine.specs.declared.Entry.{Entry}
 use Rattle.engine.specs.declared.Event.{Event}
-use Rattle.engine.specs.declared.Event.the-variants.{Entry as entry, Cancel as cancel, Bid as bid, Tape as tape, DayEnd as dayEnd, OwnedEntry as ownedEntry}
+use Rattle.engine.specs.declared.Event.the-variants.{Entry as entry, Cancel as cancel, Bid as bid, Tape as tape, DayEnd as dayEnd, OwnedEntry as ownedEntry, TimedTape as timedTape}
 use Rattle.engine.specs.rules.Market.{openingMarket, marketAfter}
-use Rattle.engine.specs.rules.Reports.{Report, accepted, cancelled, restrictionStarts, dayEnded, askedFor, endOfDay}
+use Rattle.engine.specs.rules.Reports.{Report, accepted, cancelled, restrictionStarts, dayEnded, pauseTriggered, askedFor, endOfDay}
 use Rattle.engine.specs.rules.Working.{Worked, orderOf, work}
 use Rattle.engine.specs.rules.Pass.{Effect, passOver}
 
--- the orders rest in rising id
+-- the orders rest in rising id; the kept prices (No. 10) stand in the order in which they came
 pub record Venue : Type 0 where
   pub market : Market
   pub orders : List Order
+  pub kept : List TimedPrice
   pub lastId : ℕ
   pub lastStamp : ℕ
   pub acceptedEvents : ℕ
 
--- "Fresh: phase 0, bid 0, no orders, last id, last stamp and accepted events 0"
+-- "Fresh: phase 0, bid 0, no orders, last id, last stamp and accepted events 0", and no kept prices
 unfoldable pub opened : ℕ → ℕ → Venue
-opened step close = record { market = openingMarket step close; orders = []; lastId = 0; lastStamp = 0; acceptedEvents = 0 }
+opened step close = record { market = openingMarket step close; orders = []; kept = []; lastId = 0; lastStamp = 0; acceptedEvents = 0 }
 
 -- "Open takes a close: 3 if it isn't legal; no venue is made"; No. 2: it "takes a step", and any other than 50 and 100 "is refused with 17, before
 -- the close or price is looked at"
@@ -64,6 +67,20 @@ effectOfTape m v =
     let p : Effect = thePass m v in
     record { reports = restrictionReport (v .market) m ++ p.reports; orders = p.orders; stamp = p.stamp }
 
+-- No. 10: "report 7 gives 1 and p; else .. 2 and p", by the direction; there is none where that is 0
+unfoldable pub directionReport : ℕ → ℕ → List Report
+directionReport d p = pick (eqb d 0) [] (pauseTriggered d p ∷ [])
+
+-- by the earlier prices that are kept
+abbrev pub pauseReport : ℕ → List TimedPrice → List Report
+pauseReport p earlier = directionReport (direction p earlier) p
+
+-- No. 10: "does all that a tape event does"; report 7 "comes before the restriction's report"
+abbrev pub effectOfTimedTape : Market → Venue → TimedPrice → Effect
+effectOfTimedTape m v x =
+    let t : Effect = effectOfTape m v in
+    record { reports = pauseReport (x .price) (within (x .time) (v .kept)) ++ t.reports; orders = t.orders; stamp = t.stamp }
+
 -- "cancels every order, lowest id first (cause 4)"; "6 day ended, last: new phase"
 abbrev pub cancelledAtEnd : Order → Report
 cancelledAtEnd o = cancelled (o .id) (o .shares) endOfDay
@@ -80,6 +97,7 @@ effectOf m v (bid b) = thePass m v
 effectOf m v (tape p) = effectOfTape m v
 effectOf m v (dayEnd c) = effectOfDayEnd m v
 effectOf m v (ownedEntry e k) = effectOfEntry m v k e
+effectOf m v (timedTape x) = effectOfTimedTape m v x
 
 -- the last accepted id after the event
 abbrev pub lastIdAfter : Venue → Event → ℕ
@@ -89,8 +107,26 @@ lastIdAfter v (bid b) = v.lastId
 lastIdAfter v (tape p) = v.lastId
 lastIdAfter v (dayEnd c) = v.lastId
 lastIdAfter v (ownedEntry e k) = e.id
+lastIdAfter v (timedTape x) = v.lastId
+
+-- the kept prices after the event; No. 10: "Prices whose time is at least the new time less 300 are kept"; "a day end empties the kept prices"
+abbrev pub keptAfter : Event → List TimedPrice → List TimedPrice
+keptAfter (entry e) kept = kept
+keptAfter (cancel i) kept = kept
+keptAfter (bid b) kept = kept
+keptAfter (tape p) kept = kept
+keptAfter (dayEnd c) kept = []
+keptAfter (ownedEntry e k) kept = kept
+keptAfter (timedTape x) kept = keeping (x .time) (x .price) kept
 
 -- the venue after an accepted event with this effect
 abbrev pub venueAfter : Venue → Event → Effect → Venue
 venueAfter v e x =
-    record { market = marketAfter e (v .market); orders = x.orders; lastId = lastIdAfter v e; lastStamp = x.stamp; acceptedEvents = v.acceptedEvents + 1 }
+    record {
+      market = marketAfter e (v .market);
+      orders = x.orders;
+      kept = keptAfter e (v .kept);
+      lastId = lastIdAfter v e;
+      lastStamp = x.stamp;
+      acceptedEvents = v.acceptedEvents + 1;
+    }

@@ -5,7 +5,9 @@ use mathlib.Core.List.{List}
 use lib.Dec.{T}
 use lib.ListN.{length, getD}
 use Rattle.numbers.specs.SevenBit.{Put}
+use Rattle.prices.specs.declared.TimedPrice.{TimedPrice}
 use Rattle.prices.specs.Prices.{isStep}
+use Rattle.prices.specs.Pause.{mostKept, timesInOrder}
 use Rattle.book.specs.declared.Order.{Order}
 use Rattle.book.specs.rules.Sound.{idsRise}
 use Rattle.book.specs.rules.Words.{headerWords, bookWords, resting}
@@ -38,6 +40,12 @@ pub record HasStep (w : List ℕ) : Type 0 where
   pub book : Book w
   pub is : T (isStep (venueOf w .market .step))
 
+-- words that are a book, and whose kept prices are at most 512 and in the order of their times
+pub record KeepsOrdered (w : List ℕ) : Type 0 where
+  pub book : Book w
+  pub few : length (venueOf w .kept) ≤ mostKept
+  pub inOrder : T (timesInOrder 0 (venueOf w .kept))
+
 -- what no step but the last of an event changes: the length, the header but for the count, the words behind the book
 pub record SameHeader (w w′ : List ℕ) : Type 0 where
   pub size : length w′ ≡ length w
@@ -67,17 +75,21 @@ pub record DoesEffect (w w′ b b′ : List ℕ) (at : ℕ) (x : Effect) (end st
   pub does : Does w w′ b b′ at (x .orders) (x .reports) end
   pub stamped : stamp ≡ x.stamp
 
--- the venue in another market, with other orders, and at the end of an accepted event
+-- the venue in another market, with other orders, with other kept prices, and at the end of an accepted event
 abbrev pub inMarket : Market → Venue → Venue
-inMarket m v = record { market = m; orders = v.orders; lastId = v.lastId; lastStamp = v.lastStamp; acceptedEvents = v.acceptedEvents }
+inMarket m v = record { market = m; orders = v.orders; kept = v.kept; lastId = v.lastId; lastStamp = v.lastStamp; acceptedEvents = v.acceptedEvents }
 
 abbrev pub withOrders : List Order → Venue → Venue
 withOrders os v =
-    record { market = v.market; orders = os; lastId = v.lastId; lastStamp = v.lastStamp; acceptedEvents = v.acceptedEvents }
+    record { market = v.market; orders = os; kept = v.kept; lastId = v.lastId; lastStamp = v.lastStamp; acceptedEvents = v.acceptedEvents }
+
+abbrev pub withKept : List TimedPrice → Venue → Venue
+withKept kept v =
+    record { market = v.market; orders = v.orders; kept = kept; lastId = v.lastId; lastStamp = v.lastStamp; acceptedEvents = v.acceptedEvents }
 
 abbrev pub finished : ℕ → ℕ → Venue → Venue
 finished id stamp v =
-    record { market = v.market; orders = v.orders; lastId = id; lastStamp = stamp; acceptedEvents = v.acceptedEvents + 1 }
+    record { market = v.market; orders = v.orders; kept = v.kept; lastId = id; lastStamp = stamp; acceptedEvents = v.acceptedEvents + 1 }
 
 -- what an accepted event does to the venue of the words w
 unfoldable pub effectIn : List ℕ → Event → Effect
@@ -89,9 +101,13 @@ pub record MayAccept (w : List ℕ) : Type 0 where
   pub sound : T (sound (venueOf w))
   pub events : venueOf w .acceptedEvents < mostEvents
 
--- an accepted event, done: the words w′ are the venue after it, and b′ has its reports at the front, up to end
-pub record Accepts (w w′ b b′ : List ℕ) (e : Event) (end : ℕ) : Type 0 where
+-- an accepted event, done: the words w′ are the venue after it, and b′ has its reports from the offset at up to end
+pub record AcceptsFrom (w w′ b b′ : List ℕ) (e : Event) (at end : ℕ) : Type 0 where
   pub ordered : Ordered w′
   pub venue : venueOf w′ ≡ venueAfter (venueOf w) e (effectIn w e)
   pub same : SameSpare w w′
-  pub wrote : Put (reportsBytes (effectIn w e .reports)) 0 b end b′
+  pub wrote : Put (reportsBytes (effectIn w e .reports)) at b end b′
+
+-- with its reports at the front
+abbrev pub Accepts : List ℕ → List ℕ → List ℕ → List ℕ → Event → ℕ → Type 0
+Accepts w w′ b b′ e end = AcceptsFrom w w′ b b′ e 0 end
