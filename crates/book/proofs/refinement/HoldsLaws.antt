@@ -7,7 +7,7 @@ use mathlib.Core.List.{List, []}
 use lib.ListN.{length, getD, set, length-set}
 use lib.Seq.{getD-set-same, getD-set-other}
 use Rattle.book.specs.declared.Order.{Order}
-use Rattle.book.specs.rules.Words.{orderWidth, venueWords, layoutNumber, layoutWord, firstFlag, pastFlags, placeFrom, word, orderAt, resting}
+use Rattle.book.specs.rules.Words.{orderWidth, bookWords, venueWords, layoutNumber, layoutWord, firstFlag, pastFlags, placeFrom, word, orderAt, resting}
 use Rattle.book.specs.steps.BookSteps.{Book, Holds, HeaderSet}
 use Rattle.book.specs.steps.WordSteps.{Stored, ShiftedDown, ShiftedUp}
 use Rattle.book.specs.steps.Positions.{removeAt, insertAt}
@@ -66,6 +66,23 @@ header-set w k x h₀ h b =
       rests = r;
       is = refl;
     }
+
+-- words that differ behind the book alone are the same book
+pub book-same : (w w′ : List ℕ) → Book w → length w′ ≡ length w → ((j : ℕ) → j < bookWords → getD w′ j 0 ≡ getD w j 0) → Book w′ × (resting w′ ≡ resting w)
+book-same w w′ b size same = (
+  record {
+    long = omega (arith, size, b .long);
+    numbered = same layoutWord (omega arith) ∙ b.numbered;
+    few = omega (arith, b .few, ap length r);
+    flags =
+        λ i q l a c. let h = flag-inside c in subst (λ (y : ℕ). y ≤ 1) (sym (same (placeFrom i + q) (omega (arith, b .few, ap length r)))) (b .flags i q (omega (arith, ap length r)) a c);
+  },
+  r,
+)
+  where
+    r : resting w′ ≡ resting w
+    r =
+        resting-tabulate w′ (getD w 0 0) (resting w) (same 0 (omega arith)) (tabulate-ext (getD w 0 0) (orderAt w′) (orderAt w) (λ i hi. order-ext (word w′ i) (word w i) (λ q hq. same (placeFrom i + q) (omega (arith, b .few, resting-length w)))) ∙ resting-is w)
 
 -- the orders behind position i shifted down, and the count lowered
 pub removed : (w w₁ : List ℕ) (i n from to : ℕ) → n ≡ length (resting w) → from ≡ placeFrom i → to ≡ placeFrom (n - 1) → Book w → i < length (resting w) → ShiftedDown w w₁ from to → Holds w (set w₁ 0 (n - 1)) (removeAt i (resting w))

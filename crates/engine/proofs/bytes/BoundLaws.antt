@@ -31,7 +31,7 @@ use Rattle.engine.specs.rules.Market.{marketAfter}
 use Rattle.engine.specs.rules.Reports.{Report, accepted, executed, cancelled, repriced, restrictionStarts, dayEnded, pauseTriggered}
 use Rattle.engine.specs.rules.Working.{orderOf, remainder, afterRemainder, happened, work}
 use Rattle.engine.specs.rules.Pass.{Effect, atNewPrice, afterMove, passOne, passOver}
-use Rattle.engine.specs.rules.Venue.{Venue, entering, effectOfEntry, effectOfCancel, thePass, restrictionReport, cancelledAtEnd, effectOfDayEnd, effectOf, lastIdAfter}
+use Rattle.engine.specs.rules.Venue.{Venue, entering, effectOfEntry, effectOfCancel, thePass, restrictionReport, effectOfTape, cancelledAtEnd, effectOfDayEnd, effectOf, lastIdAfter}
 use Rattle.engine.specs.rules.Sound.{mostOrders}
 use Rattle.engine.specs.rules.Refusals.{leastBuffer, refusal}
 use Rattle.engine.specs.rules.Run.{stepUnless, step}
@@ -39,7 +39,7 @@ use Rattle.engine.specs.rules.Records.{reportBytes, reportsBytes}
 use Rattle.engine.specs.claims.RoundTrips.{Word, ReportWords}
 use Rattle.engine.specs.claims.Reached.{ReportsFit}
 use Rattle.engine.proofs.refinement.RefusalLaws.{EntryAllowed, Allowed, NotRefused, Unless, refusal-known}
-use Rattle.engine.proofs.demand3.MarketLaws.{HasPermitted}
+use Rattle.engine.proofs.demand3.MarketLaws.{HasPermitted, pause-by}
 use Rattle.engine.proofs.demand3.SoundLaws.{SoundBook, SoundWork, book-distinct, book-order, RemainderOf, remainder-known, meeting-sound, MoveSound, moveOf-sound, atNewPrice-sound, passOne-sound, SoundVenue, sound-venue, market-permits, orderOf-sound}
 use Rattle.engine.proofs.bytes.ReportWordLaws.{reports-words}
 
@@ -52,12 +52,13 @@ most (cancelled i q cause) = 16
 most (repriced i p s) = 16
 most restrictionStarts = 1
 most (dayEnded phase) = 6
+most (pauseTriggered d p) = 11
 
 abbrev mostOf : List Report → ℕ
 mostOf [] = 0
 mostOf (r ∷ rs) = most r + mostOf rs
 
-fields-size : (k : ℕ) (xs : List ℕ) → k ≤ 6 → All Word xs → length (bytesOfAll (k ∷ xs)) ≤ 1 + 5 * length xs
+fields-size : (k : ℕ) (xs : List ℕ) → k ≤ 7 → All Word xs → length (bytesOfAll (k ∷ xs)) ≤ 1 + 5 * length xs
 fields-size k xs l h = kind-size k xs (omega arith) (all-map (λ x e. omega arith) xs h)
 
 report-size : (r : Report) → ReportWords r → length (reportBytes r) ≤ most r
@@ -68,6 +69,7 @@ report-size (cancelled i q cause) h = fields-size 3 _ (omega arith) (h .1)
 report-size (repriced i p s) h = fields-size 4 _ (omega arith) (h .1)
 report-size restrictionStarts h = fields-size 5 _ (omega arith) (h .1)
 report-size (dayEnded phase) h = fields-size 6 _ (omega arith) (h .1)
+report-size (pauseTriggered d p) h = fields-size 7 _ (omega arith) (h .1)
 
 reports-size : (rs : List Report) → All ReportWords rs → length (reportsBytes rs) ≤ mostOf rs
 unfolding reportsBytes
@@ -175,18 +177,25 @@ module _ (v : Venue) (g : SoundVenue v) where
   effectOfEntry-most e k f o =
       omega (arith, work-most (orderOf (v .market) (v .lastStamp + 1) k e) (v .orders) (orderOf-sound v e k f o g), g .book .few)
 
+  tape-most : (m : Market) → HasPermitted m → SoundBook (m .step) (v .lastId) (v .lastStamp) (v .orders) → mostOf ((effectOfTape m v) .reports) ≤ (16 + 21) * mostOrders + 1
+  unfolding restrictionReport
+  tape-most m t b =
+      let r = thePass-most m t b in
+      by-test (λ (rs : List Report). mostOf (rs ++ thePass m v .reports) ≤ (16 + 21) * mostOrders + 1) _ (λ x. omega arith) (λ x. omega arith)
+
   effectOf-most : (e : Event) → Allowed v e → mostOf ((effectOf (marketAfter e (v .market)) v e) .reports) ≤ leastBuffer
-  unfolding effectOf effectOfCancel effectOfDayEnd restrictionReport
+  unfolding effectOf effectOfCancel effectOfDayEnd
   effectOf-most (entry e) f = effectOfEntry-most e 0 f (omega arith)
   effectOf-most (cancel j) f = omega arith
   effectOf-most (bid b) f = omega (arith, thePass-most (marketAfter (bid b) (v .market)) (g .market .step, f) (g .book))
-  effectOf-most (tape p) f =
-      let m : Market = marketAfter (tape p) (v .market) in
-      let r = thePass-most m (market-permits (g .market)) (g .book) in
-      by-test (λ (rs : List Report). mostOf (rs ++ thePass m v .reports) ≤ leastBuffer) _ (λ t. omega arith) (λ t. omega arith)
+  effectOf-most (tape p) f = omega (arith, tape-most (marketAfter (tape p) (v .market)) (market-permits (g .market)) (g .book))
   effectOf-most (dayEnd c) f =
       omega (arith, most-append (map cancelledAtEnd (v .orders)) (dayEnded (marketAfter (dayEnd c) (v .market) .phase) ∷ []), allCancelled-most (v .orders), g .book .few)
   effectOf-most (ownedEntry e k) f = effectOfEntry-most e k (f .0) (f .1 .most)
+  effectOf-most (timedTape x) f =
+      let m : Market = marketAfter (timedTape x) (v .market) in
+      let r = tape-most m (market-permits (g .market)) (g .book) in
+      pause-by (λ (rs : List Report). mostOf (rs ++ effectOfTape m v .reports) ≤ leastBuffer) (x .price) _ (omega (arith, r)) (λ d l. omega (arith, r))
 
 -- the reports of an event that isn't refused
 pub reports-room : (v : Venue) (e : Event) (n : ℕ) → NotRefused v e n → Word (lastIdAfter v e) → length (reportsBytes ((effectOf (marketAfter e (v .market)) v e) .reports)) ≤ leastBuffer

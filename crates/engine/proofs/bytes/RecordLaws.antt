@@ -8,6 +8,7 @@ use mathlib.Core.Option.{Option, none, some}
 use lib.Dec.{leb, eqb, leb→le, eqb→eq}
 use lib.ListN.{length, getD, length-append}
 use borrow.Author.Tests.{le-leb, lt-leb, eq-eqb, ne-eqb}
+use Rattle.numbers.specs.Lists.{tabulate}
 use Rattle.numbers.specs.Tests.{pick, All}
 use Rattle.numbers.specs.Answers.{Outcome, gives, refuses, Read}
 use Rattle.numbers.specs.SevenBit.{IsByte, bytesOf, bytesOfAll, numberAt, Stands}
@@ -115,15 +116,11 @@ no-count e = let z : _≡_ {A = ℕ} 0 1 = cc in omega arith
 
 -- A list of known length, element by element
 
-abbrev tabulated : ℕ → (ℕ → ℕ) → List ℕ
-tabulated zero f = []
-tabulated (suc n) f = f zero ∷ tabulated n (λ i. f (suc i))
-
-each-element : (xs : List ℕ) → tabulated (length xs) (λ i. getD xs i 0) ≡ xs
+each-element : (xs : List ℕ) → tabulate (length xs) (λ i. getD xs i 0) ≡ xs
 each-element [] = refl
 each-element (x ∷ xs) = ap (λ l. x ∷ l) (each-element xs)
 
-elements : {n : ℕ} (xs : List ℕ) → some n ≡ some (length xs) → tabulated n (λ i. getD xs i 0) ≡ xs
+elements : {n : ℕ} (xs : List ℕ) → some n ≡ some (length xs) → tabulate n (λ i. getD xs i 0) ≡ xs
 elements {n} xs e = let z : n ≡ length xs = cc in rw z (each-element xs)
 
 -- What a form is read as
@@ -159,11 +156,12 @@ record-numbers (suc (suc (suc zero))) xs e = (omega arith, ap (λ l. 3 ∷ l) (e
 record-numbers (suc (suc (suc (suc zero)))) xs e = (omega arith, ap (λ l. 4 ∷ l) (elements {n = 1} xs e))
 record-numbers (suc (suc (suc (suc (suc zero))))) xs e = (omega arith, ap (λ l. 5 ∷ l) (elements {n = 1} xs e))
 record-numbers (suc (suc (suc (suc (suc (suc zero)))))) xs e = (omega arith, ap (λ l. 6 ∷ l) (elements {n = 8} xs e))
-record-numbers (suc (suc (suc (suc (suc (suc (suc k))))))) xs e = absurd (no-count (above (suc (suc (suc (suc (suc (suc (suc k))))))) (omega arith) e))
+record-numbers (suc (suc (suc (suc (suc (suc (suc zero))))))) xs e = (omega arith, ap (λ l. 7 ∷ l) (elements {n = 2} xs e))
+record-numbers (suc (suc (suc (suc (suc (suc (suc (suc k)))))))) xs e = absurd (no-count (above (suc (suc (suc (suc (suc (suc (suc (suc k)))))))) (omega arith) e))
   where
-    above : (m : ℕ) → 6 < m → recordFields m ≡ some (length xs) → none ≡ some (length xs)
+    above : (m : ℕ) → 7 < m → recordFields m ≡ some (length xs) → none ≡ some (length xs)
     above m h e =
-        simp (ne-eqb m 1 (λ q. omega arith), ne-eqb m 6 (λ q. omega arith), le-leb 2 m (omega arith), lt-leb m 5 (omega arith)) at e
+        simp (ne-eqb m 1 (λ q. omega arith), ne-eqb m 6 (λ q. omega arith), ne-eqb m 7 (λ q. omega arith), le-leb 2 m (omega arith), lt-leb m 5 (omega arith)) at e
 
 pub record-read-back : RecordsReadBack
 unfolding recordBytes recordAt eventOf recordFields pick
@@ -176,6 +174,7 @@ record-read-back bytes at r s = go (r .value) (s .words) (s .stands)
     go (tape p) h t = rw (form-there recordFields 4 _ (omega arith) refl (h .1) t)
     go (dayEnd c) h t = rw (form-there recordFields 5 _ (omega arith) refl (h .1) t)
     go (ownedEntry e k) h t = rw (form-there recordFields 6 _ (omega arith) refl (h .1) t)
+    go (timedTape x) h t = rw (form-there recordFields 7 _ (omega arith) refl (h .1) t)
 
 pub record-unique : RecordsReadOnly
 unfolding recordBytes recordAt
@@ -192,11 +191,12 @@ report-numbers (suc (suc (suc zero))) xs e = (omega arith, ap (λ l. 3 ∷ l) (e
 report-numbers (suc (suc (suc (suc zero)))) xs e = (omega arith, ap (λ l. 4 ∷ l) (elements {n = 3} xs e))
 report-numbers (suc (suc (suc (suc (suc zero))))) xs e = (omega arith, ap (λ l. 5 ∷ l) (elements {n = 0} xs e))
 report-numbers (suc (suc (suc (suc (suc (suc zero)))))) xs e = (omega arith, ap (λ l. 6 ∷ l) (elements {n = 1} xs e))
-report-numbers (suc (suc (suc (suc (suc (suc (suc k))))))) xs e = absurd (no-count (above (suc (suc (suc (suc (suc (suc (suc k))))))) (omega arith) e))
+report-numbers (suc (suc (suc (suc (suc (suc (suc zero))))))) xs e = (omega arith, ap (λ l. 7 ∷ l) (elements {n = 2} xs e))
+report-numbers (suc (suc (suc (suc (suc (suc (suc (suc k)))))))) xs e = absurd (no-count (above (suc (suc (suc (suc (suc (suc (suc (suc k)))))))) (omega arith) e))
   where
-    above : (m : ℕ) → 6 < m → reportFields m ≡ some (length xs) → none ≡ some (length xs)
+    above : (m : ℕ) → 7 < m → reportFields m ≡ some (length xs) → none ≡ some (length xs)
     above m h e =
-        simp (ne-eqb m 1 (λ q. omega arith), ne-eqb m 2 (λ q. omega arith), ne-eqb m 3 (λ q. omega arith), ne-eqb m 4 (λ q. omega arith), ne-eqb m 5 (λ q. omega arith), ne-eqb m 6 (λ q. omega arith)) at e
+        simp (ne-eqb m 1 (λ q. omega arith), ne-eqb m 2 (λ q. omega arith), ne-eqb m 3 (λ q. omega arith), ne-eqb m 4 (λ q. omega arith), ne-eqb m 5 (λ q. omega arith), ne-eqb m 6 (λ q. omega arith), ne-eqb m 7 (λ q. omega arith)) at e
 
 pub report-read-back : ReportsReadBack
 unfolding reportBytes reportAt reportOf reportFields pick
@@ -209,6 +209,7 @@ report-read-back bytes at r s = go (r .value) (s .words) (s .stands)
     go (repriced i p s) h t = rw (form-there reportFields 4 _ (omega arith) refl (h .1) t)
     go restrictionStarts h t = rw (form-there reportFields 5 _ (omega arith) refl (h .1) t)
     go (dayEnded phase) h t = rw (form-there reportFields 6 _ (omega arith) refl (h .1) t)
+    go (pauseTriggered d p) h t = rw (form-there reportFields 7 _ (omega arith) refl (h .1) t)
 
 pub report-unique : ReportsReadOnly
 unfolding reportBytes reportAt
@@ -228,6 +229,7 @@ record-positive (bid b) = form-positive 3 _
 record-positive (tape p) = form-positive 4 _
 record-positive (dayEnd c) = form-positive 5 _
 record-positive (ownedEntry e k) = form-positive 6 _
+record-positive (timedTape x) = form-positive 7 _
 
 -- so it begins before the end of the bytes
 pub read-inside : (bytes : List ℕ) (at : ℕ) (r : Read Event) → All IsByte bytes → recordAt bytes at ≡ gives r → at < length bytes
@@ -244,6 +246,7 @@ report-positive (cancelled i q cause) = form-positive 3 _
 report-positive (repriced i p s) = form-positive 4 _
 report-positive restrictionStarts = form-positive 5 _
 report-positive (dayEnded phase) = form-positive 6 _
+report-positive (pauseTriggered d p) = form-positive 7 _
 
 -- and it never begins with 0, the mark of a refusal in a played day
 
@@ -260,6 +263,7 @@ reports-first (cancelled i q cause ∷ rs) = kind-first 3 _ _ (omega arith) (ome
 reports-first (repriced i p s ∷ rs) = kind-first 4 _ _ (omega arith) (omega arith)
 reports-first (restrictionStarts ∷ rs) = kind-first 5 _ _ (omega arith) (omega arith)
 reports-first (dayEnded phase ∷ rs) = kind-first 6 _ _ (omega arith) (omega arith)
+reports-first (pauseTriggered d p ∷ rs) = kind-first 7 _ _ (omega arith) (omega arith)
 
 -- there are no more reports than bytes
 reports-count : (rs : List Report) → length rs ≤ length (reportsBytes rs)

@@ -29,13 +29,13 @@ use Rattle.engine.specs.rules.Market.{marketAfter}
 use Rattle.engine.specs.rules.Reports.{Report, executed, cancelled, optOut, endOfDay, sameFirm}
 use Rattle.engine.specs.rules.Working.{orderOf, remainder, afterRemainder, happened, work}
 use Rattle.engine.specs.rules.Pass.{Effect, afterMove, passOne, passOver}
-use Rattle.engine.specs.rules.Venue.{Venue, entering, effectOfEntry, effectOfCancel, thePass, restrictionReport, cancelledAtEnd, effectOfDayEnd, effectOf, lastIdAfter}
+use Rattle.engine.specs.rules.Venue.{Venue, entering, effectOfEntry, effectOfCancel, thePass, restrictionReport, effectOfTape, cancelledAtEnd, effectOfDayEnd, effectOf, lastIdAfter}
 use Rattle.engine.specs.rules.Sound.{mostEvents}
 use Rattle.engine.specs.rules.Refusals.{rests}
 use Rattle.engine.specs.claims.RoundTrips.{Word, ReportWords}
 use Rattle.engine.proofs.refinement.RefusalLaws.{EntryAllowed, Allowed, NotRefused}
 use Rattle.book.proofs.definitions.OrderConditionLaws.{MayWork}
-use Rattle.engine.proofs.demand3.MarketLaws.{HasPermitted}
+use Rattle.engine.proofs.demand3.MarketLaws.{HasPermitted, pause-by}
 use Rattle.engine.proofs.demand3.SoundLaws.{SoundBook, SoundWork, book-distinct, book-order, RemainderOf, remainder-known, meeting-sound, MoveSound, moveOf-sound, atNewPrice-sound, passOne-sound, SoundVenue, sound-venue, market-permits, workingPrice-legal, orderOf-sound, marketAfter-sound}
 
 -- the fields of an order that reports have
@@ -148,19 +148,26 @@ module _ (v : Venue) (g : SoundVenue v) (l : v.acceptedEvents < mostEvents) (i :
   effectOfEntry-words e k f o j =
       ((omega arith, (j, (omega (arith, g .stamps), (legal-word (v.market.step) _ (workingPrice-legal (v .market) (e .mark) (e .price) (f .terms .limit) (market-permits (g .market))), tt)))), work-words (v.market.step) j _ (v .orders) (orderOf-sound v e k f o g))
 
+  tape-words : (m : Market) → HasPermitted m → SoundBook (m .step) (v .lastId) (v .lastStamp) (v .orders) → All ReportWords ((effectOfTape m v) .reports)
+  unfolding restrictionReport
+  tape-words m t b =
+      let r = thePass-words m t b in
+      by-test (λ (rs : List Report). All ReportWords (rs ++ thePass m v .reports)) _ (λ x. r) (λ x. ((omega arith, tt), r))
+
   effectOf-words : (e : Event) → Allowed v e → Word (lastIdAfter v e) → All ReportWords ((effectOf (marketAfter e (v .market)) v e) .reports)
-  unfolding effectOf effectOfDayEnd restrictionReport
+  unfolding effectOf effectOfDayEnd
   effectOf-words (entry e) f k = effectOfEntry-words e 0 f (omega arith) k
   effectOf-words (cancel j) f k = cancel-words j (find j (v .orders)) (find-found j (v .orders)) f
   effectOf-words (bid b) f k = thePass-words (marketAfter (bid b) (v .market)) (g .market .step, f) (g .book)
-  effectOf-words (tape p) f k =
-      let m : Market = marketAfter (tape p) (v .market) in
-      let r = thePass-words m (market-permits (g .market)) (g .book) in
-      by-test (λ (rs : List Report). All ReportWords (rs ++ thePass m v .reports)) _ (λ t. r) (λ t. ((omega arith, tt), r))
+  effectOf-words (tape p) f k = tape-words (marketAfter (tape p) (v .market)) (market-permits (g .market)) (g .book)
   effectOf-words (dayEnd c) f k =
       let h = all-map (λ o h. cancelled-words o endOfDay (order-words (v.market.step) (v .lastId) (v .lastStamp) o i (h .works)) (omega arith)) (v .orders) (g .book .orders) in
       all-append ReportWords (map cancelledAtEnd (v .orders)) _ (map-all ReportWords cancelledAtEnd (v .orders) h) ((omega arith, (omega (arith, marketAfter-sound v (dayEnd c) f (g .market) .phase), tt)), tt)
   effectOf-words (ownedEntry e j) f k = effectOfEntry-words e j (f .0) (f .1 .most) k
+  effectOf-words (timedTape x) f k =
+      let m : Market = marketAfter (timedTape x) (v .market) in
+      let r = tape-words m (market-permits (g .market)) (g .book) in
+      pause-by (λ (rs : List Report). All ReportWords (rs ++ effectOfTape m v .reports)) (x .price) _ r (λ d l. ((omega arith, (omega (arith, l), (legal-word (v.market.step) (x .price) (f .price), tt))), r))
 
 -- the last id doesn't fall
 lastId-word : (v : Venue) (e : Event) → Allowed v e → Word (lastIdAfter v e) → Word (v .lastId)
@@ -170,6 +177,7 @@ lastId-word v (bid b) f k = k
 lastId-word v (tape p) f k = k
 lastId-word v (dayEnd c) f k = k
 lastId-word v (ownedEntry e j) f k = omega (arith, f .0 .place .newId)
+lastId-word v (timedTape x) f k = k
 
 -- the reports of an event that isn't refused
 pub reports-words : (v : Venue) (e : Event) (n : ℕ) → NotRefused v e n → Word (lastIdAfter v e) → All ReportWords ((effectOf (marketAfter e (v .market)) v e) .reports)

@@ -71,6 +71,7 @@ event-lastId v (bid b) i h = i
 event-lastId v (tape p) i h = i
 event-lastId v (dayEnd c) i h = i
 event-lastId v (ownedEntry e k) i h = h .1 .0
+event-lastId v (timedTape x) i h = i
 
 -- the buffer after a call reads back as its answer
 

@@ -10,6 +10,7 @@ use lib.Dec.{T, T-not}
 use Rattle.numbers.specs.Tests.{All}
 use Rattle.numbers.proofs.TestLaws.{by-test, tests, all-map, all-both}
 use Rattle.prices.specs.Prices.{isStep}
+use Rattle.prices.specs.declared.TimedPrice.{TimedPrice}
 use Rattle.book.specs.declared.Order.{Order}
 use Rattle.book.specs.rules.Orders.{ifSame, restingShares}
 use Rattle.book.proofs.definitions.ShareLaws.{ifSame-same, ifSame-other}
@@ -21,12 +22,12 @@ use Rattle.engine.specs.declared.Event.the-variants.{Entry as entry, Can
 use Rattle.engine.specs.rules.Market.{restricted, marketAfter}
 use Rattle.engine.specs.rules.Reports.{Report, cancelled, dayEnded, endOfDay}
 use Rattle.engine.specs.rules.Working.{workingPrice, orderOf}
-use Rattle.engine.specs.rules.Venue.{Venue, opened, entering, effectOfEntry, effectOfCancel, thePass, restrictionReport, effectOfTape, effectOfDayEnd, effectOf, lastIdAfter}
+use Rattle.engine.specs.rules.Venue.{Venue, opened, entering, effectOfEntry, effectOfCancel, thePass, restrictionReport, effectOfTape, effectOfTimedTape, effectOfDayEnd, effectOf, lastIdAfter}
 use Rattle.engine.specs.rules.Refusals.{refusal}
 use Rattle.engine.specs.rules.Run.{stepUnless, step, Call, run}
 use Rattle.engine.specs.claims.Account.{Tallies, givePrice, startTally, talliesAfter, readReport, Account, freshAccount, accountAfter, accountFrom}
 use Rattle.engine.proofs.refinement.RefusalLaws.{sound-step, Allowed, NotRefused, Unless, refusal-known}
-use Rattle.engine.proofs.demand3.MarketLaws.{permittedNow-above}
+use Rattle.engine.proofs.demand3.MarketLaws.{permittedNow-above, pause-by}
 use Rattle.engine.proofs.demand3.Invariant.{TalliesKnow, TalliesAgree, without-uncrossed, SafelyPriced, BookAgrees, WhileWorking, EffectAgrees, AccountAgrees}
 use Rattle.engine.proofs.demand3.TallyLaws.{setAt-same, setAt-other, givePrice-others, givePrice-own, agree-cancelled}
 use Rattle.engine.proofs.demand3.WorkingKeeps.{work-keeps, work-all}
@@ -104,6 +105,11 @@ unfolding restrictionReport
 tape-keeps m is n v c h =
     by-test (λ (rs : List Report). EffectAgrees m n (record { reports = rs ++ (thePass m v) .reports; orders = (thePass m v) .orders; stamp = (thePass m v) .stamp }) c) _ (λ t. thePass-keeps m is n v c h) (λ t. thePass-keeps m is n v c h)
 
+timedTape-keeps : (m : Market) → T (isStep (m .step)) → (n : ℕ) (v : Venue) (c : Tallies) (x : TimedPrice) → BookAgrees n (v .orders) c → EffectAgrees m n (effectOfTimedTape m v x) c
+timedTape-keeps m is n v c x h =
+    let t : Effect = effectOfTape m v in
+    pause-by (λ (rs : List Report). EffectAgrees m n (record { reports = rs ++ t.reports; orders = t.orders; stamp = t.stamp }) c) (x .price) _ (tape-keeps m is n v c h) (λ d l. tape-keeps m is n v c h)
+
 allCancelled-agree : (m : Market) (n p : ℕ) (os : List Order) (c : Tallies) → TalliesAgree n os c → TalliesAgree n [] (foldl (readReport m) c (map (λ (o : Order). cancelled (o .id) (o .shares) endOfDay) os ++ dayEnded p ∷ []))
 allCancelled-agree m n p [] c h = h
 allCancelled-agree m n p (o ∷ os) c h = allCancelled-agree m n p os _ (agree-cancelled h)
@@ -120,6 +126,7 @@ effect-keeps v is c (bid b) a h s = thePass-keeps _ is (v .lastId) v c h
 effect-keeps v is c (tape p) a h s = tape-keeps _ is (v .lastId) v c h
 effect-keeps v is c (dayEnd x) a h s = dayEnd-keeps _ (v .lastId) v c h
 effect-keeps v is c (ownedEntry e k) a h s = entry-keeps (v .market) is v c e k (a .0 .place .newId) h s
+effect-keeps v is c (timedTape x) a h s = timedTape-keeps _ is (v .lastId) v c x h
 
 -- any event, and every run
 

@@ -17,17 +17,18 @@ use Rattle.engine.specs.rules.Sound.{sound}
 use Rattle.engine.specs.rules.Refusals.{refuseUnless, firstOf, refusalOfOwner, refusalOfEntry, refusalOfKind, refusal}
 use Rattle.engine.specs.rules.Run.{stepUnless, step, Call, run}
 use Rattle.engine.specs.claims.Reached.{ReachedIsSound, StampsBounded}
-use Rattle.engine.proofs.refinement.RefusalLaws.{terms-by, codes-by, owner-by, place-by, NotRefused, Unless, refusal-known}
+use Rattle.engine.proofs.refinement.RefusalLaws.{terms-by, codes-by, owner-by, place-by, time-by, NotRefused, Unless, refusal-known}
 use Rattle.prices.proofs.PriceLaws.{no-bid}
+use Rattle.prices.proofs.PauseLaws.{none-sound}
 use Rattle.engine.proofs.refinement.OpeningLaws.{opening-known}
-use Rattle.engine.proofs.demand3.SoundLaws.{SoundVenue, sound-venue, venue-sound, marketAfter-sound, effectOf-sound}
+use Rattle.engine.proofs.demand3.SoundLaws.{SoundVenue, sound-venue, venue-sound, marketAfter-sound, keptAfter-sound, effectOf-sound}
 
 stepUnless-sound : (x : Option ℕ) (v : Venue) (e : Event) (n : ℕ) → Unless x (NotRefused v e n) → SoundVenue v → SoundVenue ((stepUnless x v e) .venue)
 unfolding stepUnless
 stepUnless-sound (some k) v e n h g = g
 stepUnless-sound none v e n h g =
     let r = effectOf-sound v e (h .allowed) g in
-    record { book = r .0; market = marketAfter-sound v e (h .allowed) (g .market); events = omega (arith, h .events); stamps = omega (arith, r .1, g .stamps) }
+    record { book = r .0; market = marketAfter-sound v e (h .allowed) (g .market); kept = keptAfter-sound v e (h .allowed) g; events = omega (arith, h .events); stamps = omega (arith, r .1, g .stamps) }
 
 -- one event, refused or not, leaves a sound venue
 pub step-sound : (v : Venue) (e : Event) (n : ℕ) → T (sound v) → T (sound ((step v e n) .venue))
@@ -45,6 +46,7 @@ opened-sound s close i t =
     record {
       book = record { few = omega arith; rises = tt; orders = tt; stamps = tt };
       market = record { step = i; phase = omega arith; close = t; bid = no-bid s };
+      kept = none-sound s;
       events = omega arith;
       stamps = omega arith;
     }
@@ -99,6 +101,7 @@ refusalOfKind-not v (bid b) = refuseUnless-other _ 3 none tt tt
 refusalOfKind-not v (tape p) = refuseUnless-other _ 3 none tt tt
 refusalOfKind-not v (dayEnd c) = refuseUnless-other _ 3 none tt tt
 refusalOfKind-not v (ownedEntry e k) = refusalOfEntry-not v e (refusalOfOwner k) (owner-by Refused tt (of-sound 21 tt) k)
+refusalOfKind-not v (timedTape x) = refuseUnless-other _ 3 _ tt (time-by Refused tt (of-sound 22 tt) (of-sound 23 tt) (v .kept) (x .time))
 
 refusal-not : (v : Venue) (e : Event) (n : ℕ) → T (sound v) → Refused (refusal v e n)
 unfolding refusal

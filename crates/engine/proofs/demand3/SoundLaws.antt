@@ -10,7 +10,9 @@ use lib.ListN.{length, length-map}
 use Rattle.numbers.specs.Tests.{pick, All}
 use Rattle.numbers.proofs.TestLaws.{by-test, and-T, Each, conj-T, T-conj, every-T, T-every, neqb, tests, all-map}
 use Rattle.prices.specs.Prices.{isStep, legal, isBid}
+use Rattle.prices.specs.Pause.{soundKept}
 use Rattle.prices.proofs.RestrictionLaws.{tape-phase, day-end-phase}
+use Rattle.prices.proofs.PauseLaws.{none-sound, keeping-sound}
 use Rattle.prices.proofs.PriceLaws.{no-bid, max-legal, permitted-legal, max-bid-legal}
 use Rattle.book.specs.declared.Order.{Order}
 use Rattle.book.specs.rules.Orders.{find, without}
@@ -32,7 +34,7 @@ use Rattle.engine.specs.declared.Move.the-variants.{Stay, Cancel, Repric
 use Rattle.engine.specs.rules.Market.{marketAfter, restricted, permittedNow}
 use Rattle.engine.specs.rules.Working.{isMarket, limitOf, followsBid, lifeOf, workingPrice, orderOf, remainder, afterRemainder, work}
 use Rattle.engine.specs.rules.Pass.{moveDown, slideOnce, slideDown, moveOf, atNewPrice, Effect, afterMove, passOne, passOver}
-use Rattle.engine.specs.rules.Venue.{Venue, thePass, entering, effectOfEntry, effectOfCancel, effectOfDayEnd, effectOf, lastIdAfter}
+use Rattle.engine.specs.rules.Venue.{Venue, thePass, entering, effectOfEntry, effectOfCancel, effectOfDayEnd, effectOf, lastIdAfter, keptAfter}
 use Rattle.engine.specs.rules.Sound.{mostOrders, mostEvents, venueConditions, sound}
 use Rattle.engine.specs.steps.Steps.{HasPlace}
 use Rattle.book.proofs.definitions.OrderConditionLaws.{FieldsSound, MayWork, MayRest, market-allowed, mayWork-reduced, mayRest-later, order-mayRest, mayRest-order}
@@ -250,6 +252,7 @@ market-permits g = (g .step, g .bid)
 pub record SoundVenue (v : Venue) : Type 0 where
   pub book : SoundBook (v.market.step) (v .lastId) (v .lastStamp) (v .orders)
   pub market : SoundMarket (v .market)
+  pub kept : T (soundKept (v.market.step) (v .kept))
   pub events : v.acceptedEvents ≤ mostEvents
   pub stamps : v.lastStamp ≤ 256 * v.acceptedEvents
 
@@ -258,7 +261,7 @@ unfolding sound
 sound-venue v t = go (conj-T (venueConditions v) t)
   where
     go : Each (venueConditions v) → SoundVenue v
-    go (few, (rises, (orders, (differ, (step, (phase, (close, (best, (events, (stamps, end)))))))))) =
+    go (few, (rises, (orders, (differ, (kept, (step, (phase, (close, (best, (events, (stamps, end))))))))))) =
         record {
           book =
               record {
@@ -268,6 +271,7 @@ sound-venue v t = go (conj-T (venueConditions v) t)
                 stamps = stampsDiffer-differ (v .orders) differ;
               };
           market = record { step = step; phase = leb→le _ _ phase; close = close; bid = best };
+          kept = kept;
           events = leb→le _ _ events;
           stamps = leb→le _ _ stamps;
         }
@@ -275,7 +279,7 @@ sound-venue v t = go (conj-T (venueConditions v) t)
 pub venue-sound : (v : Venue) → SoundVenue v → T (sound v)
 unfolding sound
 venue-sound v g =
-    T-conj (venueConditions v) (le→leb _ _ (g .book .few), (rises-idsRise 0 (v .orders) (g .book .rises), (T-every (soundOrder (v.market.step) (v .lastId) (v .lastStamp)) (v .orders) (all-map (mayRest-order (v.market.step) (v .lastId) (v .lastStamp)) (v .orders) (g .book .orders)), (differ-stampsDiffer (v .orders) (g .book .stamps), (g .market .step, (le→leb _ _ (g .market .phase), (g .market .close, (g .market .bid, (le→leb _ _ (g .events), (le→leb _ _ (g .stamps), tt))))))))))
+    T-conj (venueConditions v) (le→leb _ _ (g .book .few), (rises-idsRise 0 (v .orders) (g .book .rises), (T-every (soundOrder (v.market.step) (v .lastId) (v .lastStamp)) (v .orders) (all-map (mayRest-order (v.market.step) (v .lastId) (v .lastStamp)) (v .orders) (g .book .orders)), (differ-stampsDiffer (v .orders) (g .book .stamps), (g .kept, (g .market .step, (le→leb _ _ (g .market .phase), (g .market .close, (g .market .bid, (le→leb _ _ (g .events), (le→leb _ _ (g .stamps), tt)))))))))))
 
 -- events
 
@@ -331,6 +335,17 @@ marketAfter-sound v (bid b) f g = record { step = g .step; phase = g .phase; clo
 marketAfter-sound v (tape p) f g = record { step = g .step; phase = tape-phase (v .market .close) (v .market .phase) p (g .phase); close = g .close; bid = g .bid }
 marketAfter-sound v (dayEnd c) f g = record { step = g .step; phase = day-end-phase (v .market .phase); close = f; bid = no-bid (v.market.step) }
 marketAfter-sound v (ownedEntry e k) f g = g
+marketAfter-sound v (timedTape x) f g =
+    record { step = g .step; phase = tape-phase (v .market .close) (v .market .phase) (x .price) (g .phase); close = g .close; bid = g .bid }
+
+pub keptAfter-sound : (v : Venue) (e : Event) → Allowed v e → SoundVenue v → T (soundKept ((marketAfter e (v .market)) .step) (keptAfter e (v .kept)))
+keptAfter-sound v (entry e) f g = g .kept
+keptAfter-sound v (cancel i) f g = g .kept
+keptAfter-sound v (bid b) f g = g .kept
+keptAfter-sound v (tape p) f g = g .kept
+keptAfter-sound v (dayEnd c) f g = none-sound (v.market.step)
+keptAfter-sound v (ownedEntry e k) f g = g .kept
+keptAfter-sound v (timedTape x) f g = keeping-sound (v.market.step) (x .time) (x .price) (v .kept) (g .kept) (f .price) (f .time) (f .few)
 
 thePass-sound : (m : Market) (v : Venue) → HasPermitted m → SoundBook (m .step) (v .lastId) (v .lastStamp) (v .orders) → SoundEffect (m .step) (v .lastId) (v .lastStamp) mostOrders (thePass m v)
 unfolding thePass
@@ -346,3 +361,4 @@ effectOf-sound v (bid b) f g = thePass-sound _ v (g .market .step, f) (g .book)
 effectOf-sound v (tape p) f g = thePass-sound _ v (market-permits (g .market)) (g .book)
 effectOf-sound v (dayEnd c) f g = (record { few = omega arith; rises = tt; orders = tt; stamps = tt }, omega arith)
 effectOf-sound v (ownedEntry e k) f g = (work-sound _ (v .orders) (orderOf-sound v e k (f .0) (f .1 .most) g), omega arith)
+effectOf-sound v (timedTape x) f g = thePass-sound _ v (market-permits (g .market)) (g .book)

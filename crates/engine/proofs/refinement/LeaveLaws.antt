@@ -9,10 +9,12 @@ use lib.Seq.{drop-cons}
 use Rattle.numbers.specs.SevenBit.{Put}
 use Rattle.numbers.proofs.PlaceLaws.{length-overwrite}
 use Rattle.numbers.proofs.WriteLaws.{put-then, Remaining}
+use Rattle.prices.specs.KeptWords.{keptIn}
+use Rattle.prices.proofs.KeptWordLaws.{kept-none}
 use Rattle.book.specs.declared.Order.{Order}
 use Rattle.book.specs.rules.Orders.{without}
 use Rattle.book.specs.rules.Sound.{idsRise}
-use Rattle.book.specs.rules.Words.{emptyOrder, resting}
+use Rattle.book.specs.rules.Words.{bookWords, emptyOrder, resting}
 use Rattle.book.specs.steps.BookSteps.{Holds}
 use Rattle.book.proofs.definitions.RisingLaws.{idsRise-rises, rises-idsRise, rises-without}
 use Rattle.book.proofs.refinement.PositionLaws.{shares-at}
@@ -24,7 +26,7 @@ use Rattle.engine.specs.rules.Reports.{cancelled, dayEnded, askedFor, en
 use Rattle.engine.specs.rules.Venue.{Venue, effectOfCancel, cancelledAtEnd, effectOfDayEnd, effectOf, venueAfter}
 use Rattle.engine.specs.rules.Sound.{mostEvents}
 use Rattle.engine.specs.rules.Records.{reportBytes, reportsBytes}
-use Rattle.engine.specs.steps.Memory.{Ordered, Becomes, Room, inMarket, withOrders, finished, effectIn, MayAccept, Accepts}
+use Rattle.engine.specs.steps.Memory.{Ordered, Becomes, Room, inMarket, withOrders, withKept, finished, effectIn, MayAccept, Accepts}
 use Rattle.engine.specs.rules.Layout.{venueOf}
 use Rattle.engine.proofs.refinement.StepLaws.{reports-one, reports-append}
 use Rattle.engine.proofs.refinement.MemoryLaws.{becomes-then, becomes-as, holds-becomes}
@@ -106,10 +108,16 @@ module _ (w : List ℕ) (close : ℕ) (m : Market) (e : m ≡ marketAfter (dayEn
     pub emptied-in : {w₂ : List ℕ} → Becomes w₁ w₂ (inMarket m (venueOf w₁)) → Becomes w w₂ (inMarket m (withOrders [] (venueOf w)))
     emptied-in f = becomes-as (becomes-then emptied f) (ap (inMarket m) (emptied .venue))
 
-    pub emptied-accepts : {w₂ : List ℕ} → Becomes w₁ w₂ (inMarket m (venueOf w₁)) → Ordered w₂ × (venueOf w₂ .acceptedEvents < mostEvents)
-    emptied-accepts f = let r = emptied-in f in (r .ordered, rw (r .venue) (a .events))
+    -- and no price is kept
+    pub emptied-kept : {w₂ w₃ : List ℕ} → Becomes w₁ w₂ (inMarket m (venueOf w₁)) → Becomes w₂ w₃ (withKept (keptIn w₂ bookWords 0) (venueOf w₂)) → Becomes w w₃ (withKept [] (inMarket m (withOrders [] (venueOf w))))
+    emptied-kept {w₂} f k =
+        let r = emptied-in f in
+        becomes-as (becomes-then r k) (λ i. withKept (kept-none w₂ bookWords i) (r .venue i))
 
-  pub day-done : {w₂ w′ b b₁ b′ : List ℕ} {at end : ℕ} → Room b 0 (effectIn w (dayEnd close) .reports) → Put Cancels 0 b at b₁ → Put (reportBytes (dayEnded (m .phase))) at b₁ end b′ → Becomes w w₂ (inMarket m (withOrders [] (venueOf w))) → Becomes w₂ w′ (finished (venueOf w₂ .lastId) (venueOf w₂ .lastStamp) (venueOf w₂)) → Accepts w w′ b b′ (dayEnd close) end
+    pub emptied-accepts : {w₂ w₃ : List ℕ} → Becomes w₁ w₂ (inMarket m (venueOf w₁)) → Becomes w₂ w₃ (withKept (keptIn w₂ bookWords 0) (venueOf w₂)) → Ordered w₃ × (venueOf w₃ .acceptedEvents < mostEvents)
+    emptied-accepts f k = let r = emptied-kept f k in (r .ordered, rw (r .venue) (a .events))
+
+  pub day-done : {w₂ w′ b b₁ b′ : List ℕ} {at end : ℕ} → Room b 0 (effectIn w (dayEnd close) .reports) → Put Cancels 0 b at b₁ → Put (reportBytes (dayEnded (m .phase))) at b₁ end b′ → Becomes w w₂ (withKept [] (inMarket m (withOrders [] (venueOf w)))) → Becomes w₂ w′ (finished (venueOf w₂ .lastId) (venueOf w₂ .lastStamp) (venueOf w₂)) → Accepts w w′ b b′ (dayEnd close) end
   unfolding effectIn effectOf effectOfDayEnd venueOf
   day-done {b = b} {b′ = b′} {end = end} r p q g f =
-      accepts-as (becomes-as (accepted-same g f) (ap (λ (x : Market). finished (venueOf w .lastId) (venueOf w .lastStamp) (inMarket x (withOrders [] (venueOf w)))) e)) (subst (λ (l : List ℕ). Put l 0 b end b′) (sym day-bytes) (put-then _ (omega (arith, ap length day-bytes)) p q))
+      accepts-as (becomes-as (accepted-same g f) (ap (λ (x : Market). finished (venueOf w .lastId) (venueOf w .lastStamp) (withKept [] (inMarket x (withOrders [] (venueOf w))))) e)) (subst (λ (l : List ℕ). Put l 0 b end b′) (sym day-bytes) (put-then _ (omega (arith, ap length day-bytes)) p q))

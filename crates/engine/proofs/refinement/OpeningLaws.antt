@@ -9,8 +9,9 @@ use lib.ListN.{length, set, replicate, length-append, length-replicate, length-s
 use Rattle.numbers.specs.Answers.{Outcome, gives, refuses}
 use Rattle.numbers.proofs.TestLaws.{by-test, T-and, pick-yes, pick-no}
 use Rattle.prices.specs.Prices.{isStep, legal, atStep, priceOf}
+use Rattle.prices.proofs.KeptWordLaws.{kept-none}
 use Rattle.prices.proofs.PriceLaws.{price-given, price-refused, price-refusal}
-use Rattle.book.specs.rules.Words.{venueWords, layoutNumber, layoutWord, isBook}
+use Rattle.book.specs.rules.Words.{bookWords, venueWords, layoutNumber, layoutWord, isBook}
 use Rattle.book.proofs.refinement.WordLaws.{resting-tabulate, isBook-laidOut, laidOut-isBook}
 use Rattle.engine.specs.declared.Event.{Event}
 use Rattle.engine.specs.declared.Refusal.{Refusal}
@@ -57,7 +58,7 @@ fresh-book s x behind =
 
 fresh-venue : (s x : ℕ) (behind : List ℕ) → venueOf (freshWords s x ++ behind) ≡ opened s x
 unfolding venueOf opened
-fresh-venue s x behind = rw (resting-tabulate (freshWords s x ++ behind) 0 [] refl refl)
+fresh-venue s x behind = rw (resting-tabulate (freshWords s x ++ behind) 0 [] refl refl, kept-none (freshWords s x ++ behind) bookWords)
 
 fresh-none : (s x : ℕ) → venueOf (freshWords s x) ≡ opened s x
 fresh-none s x = rw append-nil at (fresh-venue s x [])

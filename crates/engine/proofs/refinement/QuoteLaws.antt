@@ -83,7 +83,7 @@ module _ {w w₁ : List ℕ} {m : Market} (f : Becomes w w₁ (inMarket m (venue
       let v = sound-venue (venueOf w) (a .sound) in
       record {
         ordered = f .ordered;
-        sound = subst (λ (u : Venue). T (sound u)) (sym (f .venue)) (venue-sound (inMarket m (venueOf w)) (record { book = rw k (v .book); market = g; events = v .events; stamps = v .stamps }));
+        sound = subst (λ (u : Venue). T (sound u)) (sym (f .venue)) (venue-sound (inMarket m (venueOf w)) (record { book = rw k (v .book); market = g; kept = rw k (v .kept); events = v .events; stamps = v .stamps }));
         events = rw (f .venue) (a .events);
       }
 

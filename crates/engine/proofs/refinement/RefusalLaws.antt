@@ -4,11 +4,14 @@ use native.Mathlib.Omega.{arith}
 use mathlib.Core.Path.{_≡_, subst}
 use mathlib.Core.Bool.{Bool, true, false, not, _||_}
 use mathlib.Core.Logic.{_⊎_, inl, inr}
+use mathlib.Core.List.{List}
 use mathlib.Core.Option.{Option, none, some}
 use lib.Dec.{T, leb, ltb, eqb, leb→le, eqb→eq, T-not}
 use lib.ListN.{length}
 use Rattle.numbers.proofs.TestLaws.{by-test, or-T, conj-T, T-and}
+use Rattle.prices.specs.declared.TimedPrice.{TimedPrice}
 use Rattle.prices.specs.Prices.{isStep, legal, isBid}
+use Rattle.prices.specs.Pause.{mostKept, within, lastTime}
 use Rattle.prices.proofs.PriceLaws.{highest-legal, one-legal}
 use Rattle.book.specs.rules.Orders.{find}
 use Rattle.book.specs.rules.Sound.{mostShares, mostOwner, slideAllowed}
@@ -18,7 +21,7 @@ use Rattle.engine.specs.declared.Event.the-variants.{Entry as entry, Can
 use Rattle.engine.specs.rules.Working.{isMarket, limitOf}
 use Rattle.engine.specs.rules.Venue.{Venue}
 use Rattle.engine.specs.rules.Sound.{mostOrders, mostEvents, venueConditions, sound}
-use Rattle.engine.specs.rules.Refusals.{refuseUnless, firstOf, refusalOfTerms, refusalOfOtherCodes, refusalOfCodes, refusalOfOwner, refusalOfPlace, refusalOfEntry, rests, refusalOfKind, leastBuffer, refusal}
+use Rattle.engine.specs.rules.Refusals.{refuseUnless, firstOf, refusalOfTerms, refusalOfOtherCodes, refusalOfCodes, refusalOfOwner, refusalOfPlace, refusalOfEntry, rests, refusalOfTime, refusalOfKind, leastBuffer, refusal}
 use Rattle.engine.specs.steps.Steps.{HasPlace, EntryHasPlace}
 
 -- what holds of none and of each refusal of a part of an entry's chain holds of the part
@@ -47,10 +50,14 @@ module _ (P : Option ℕ → Type 0) (allowed : P none) where
   unfolding refusalOfPlace
   place-by p q v e = refused-or _ 6 _ p (refused-or _ 7 none q allowed)
 
+  pub time-by : P (some 22) → P (some 23) → (kept : List TimedPrice) (t : ℕ) → P (refusalOfTime kept t)
+  unfolding refusalOfTime
+  time-by p q kept t = refused-or _ 22 _ p (refused-or _ 23 none q allowed)
+
 -- the step of a sound record is 50 or 100
 pub sound-step : (v : Venue) → T (sound v) → T (isStep (v.market.step))
 unfolding sound
-sound-step v t = conj-T (venueConditions v) t .1 .1 .1 .1 .0
+sound-step v t = conj-T (venueConditions v) t .1 .1 .1 .1 .1 .0
 
 -- what the refusals of its terms leave of an entry; what counts as its limit is legal at the step
 abbrev pub TermsAllowed : ℕ → Entry → Type 0
@@ -68,6 +75,11 @@ OwnerAllowed k = record { least : 1 ≤ k; most : k ≤ mostOwner }
 abbrev pub PlaceAllowed : Venue → Entry → Type 0
 PlaceAllowed v e = record { newId : v.lastId < e.id; hasPlace : EntryHasPlace v e }
 
+-- what those of its price and its time leave of a timed price
+abbrev pub TimedAllowed : Venue → TimedPrice → Type 0
+TimedAllowed v x =
+    record { price : T (legal (v.market.step) (x .price)); time : lastTime (v .kept) ≤ x.time; few : length (within (x .time) (v .kept)) < mostKept }
+
 -- what an entry of either kind has, and what the refusals of its kind leave of an event
 abbrev pub EntryAllowed : Venue → Entry → Type 0
 EntryAllowed v e = record { terms : TermsAllowed (v.market.step) e; codes : CodesAllowed e; place : PlaceAllowed v e }
@@ -79,6 +91,7 @@ Allowed v (bid b) = T (isBid (v.market.step) b)
 Allowed v (tape p) = T (legal (v.market.step) p)
 Allowed v (dayEnd c) = T (legal (v.market.step) c)
 Allowed v (ownedEntry e k) = EntryAllowed v e × OwnerAllowed k
+Allowed v (timedTape x) = TimedAllowed v x
 
 -- what all refusals leave; n is the length of the lent report buffer
 pub record NotRefused (v : Venue) (e : Event) (n : ℕ) : Type 0 where
@@ -161,13 +174,15 @@ refusalOfEntry-known v is e P ofOwner h =
     unless-map _ _ (λ p. (record { terms = t; codes = c; place = p }, o)) (refusalOfPlace v e) (refusalOfPlace-known v e))))
 
 pub refusalOfKind-known : (v : Venue) → T (isStep (v.market.step)) → (e : Event) → Unless (refusalOfKind v e) (Allowed v e)
-unfolding refusalOfKind
+unfolding refusalOfKind refusalOfTime
 refusalOfKind-known v is (entry e) = unless-map _ _ (λ k. k .0) (refusalOfEntry v e none) (refusalOfEntry-known v is e (Unit {0}) none tt)
 refusalOfKind-known v is (cancel i) = refuseUnless-known _ _ _ none (λ t. t)
 refusalOfKind-known v is (bid b) = refuseUnless-known _ _ _ none (λ t. t)
 refusalOfKind-known v is (tape p) = refuseUnless-known _ _ _ none (λ t. t)
 refusalOfKind-known v is (dayEnd c) = refuseUnless-known _ _ _ none (λ t. t)
 refusalOfKind-known v is (ownedEntry e k) = refusalOfEntry-known v is e (OwnerAllowed k) (refusalOfOwner k) (refusalOfOwner-known k)
+refusalOfKind-known v is (timedTape x) =
+    refuseUnless-known _ _ _ _ (λ p. refuseUnless-known _ (leb (lastTime (v .kept)) (x .time)) _ _ (λ t. refuseUnless-known _ (ltb (length (within (x .time) (v .kept))) mostKept) _ none (λ f. record { price = p; time = leb→le _ _ t; few = leb→le _ _ f })))
 
 pub refusal-known : (v : Venue) (e : Event) (n : ℕ) → Unless (refusal v e n) (NotRefused v e n)
 unfolding refusal

@@ -10,15 +10,18 @@ use lib.Dec.{T, leb, le→leb, not-T}
 use lib.ListN.{length, getD}
 use Rattle.numbers.specs.Tests.{conj}
 use Rattle.prices.specs.Prices.{isStep}
+use Rattle.prices.specs.Pause.{soundKept}
+use Rattle.prices.specs.KeptWords.{keptIn}
+use Rattle.prices.proofs.PauseLaws.{sound-few, sound-ordered}
 use Rattle.numbers.proofs.TestLaws.{T-true, T-false, and-T, T-and, bool-ext, Each, conj-T, T-conj, every-T, T-every}
 use Rattle.book.specs.declared.Order.{Order}
 use Rattle.book.specs.rules.Sound.{soundOrder}
-use Rattle.book.specs.rules.Words.{venueWords, resting, isBook, soundBook}
+use Rattle.book.specs.rules.Words.{bookWords, venueWords, resting, isBook, soundBook}
 use Rattle.book.proofs.refinement.WordLaws.{resting-length, isBook-laidOut, isBook-book}
 use Rattle.book.proofs.refinement.SoundBookLaws.{soundBook-parts, parts-soundBook}
 use Rattle.engine.specs.rules.Sound.{mostOrders, headerConditions, venueConditions, sound}
 use Rattle.engine.specs.rules.Refusals.{refuseUnless, firstOf, rests}
-use Rattle.engine.specs.steps.Memory.{Ordered, HasStep}
+use Rattle.engine.specs.steps.Memory.{Ordered, HasStep, KeepsOrdered}
 use Rattle.engine.specs.rules.Layout.{venueOf, soundWords}
 
 pub refuse-yes : (b : Bool) (n : ℕ) (later : Option ℕ) → b ≡ true → refuseUnless b n later ≡ later
@@ -68,6 +71,9 @@ absent-refused e = rw e
 -- words that are sound
 
 module _ (w : List ℕ) where
+  abbrev KeptTests : Bool
+  KeptTests = soundKept (getD w 7 0) (keptIn w bookWords (getD w 8 0))
+
   abbrev BookTests : Bool
   BookTests = soundBook (getD w 7 0) (getD w 4 0) (getD w 5 0) w
 
@@ -93,30 +99,36 @@ module _ (w : List ℕ) where
   header-step t = conj-T (headerConditions (venueOf w)) t .0
 
   pub words-stepped : T (soundWords w) → HasStep w
-  words-stepped t = record { book = words-ordered t .book; is = words-each t .1 .1 .1 .1 .1 .0 }
+  words-stepped t = record { book = words-ordered t .book; is = words-each t .1 .1 .1 .1 .1 .1 .0 }
+
+  pub words-kept : T (soundWords w) → KeepsOrdered w
+  words-kept t =
+      let k = words-each t .1 .1 .1 .1 .1 .0 in
+      record { book = words-ordered t .book; few = sound-few _ _ k; inOrder = sound-ordered _ _ k }
 
   pub sound-words : T (isBook w) → T (sound (venueOf w)) → T (soundWords w)
   unfolding soundWords
   sound-words t s = T-and (isBook w) (sound (venueOf w)) t s
 
-  -- the header first, then the orders in one walk
-  pub header-first : soundWords w ≡ (conj (headerConditions (venueOf w)) && BookTests)
+  -- the header first, then the kept prices, then the orders in one walk
+  pub header-first : soundWords w ≡ (conj (headerConditions (venueOf w)) && (KeptTests && BookTests))
   unfolding soundWords sound venueOf
-  header-first = bool-ext (soundWords w) (conj (headerConditions (venueOf w)) && BookTests) there back
+  header-first = bool-ext (soundWords w) (conj (headerConditions (venueOf w)) && (KeptTests && BookTests)) there back
     where
       few : T (isBook w) → T (leb (length (resting w)) mostOrders)
       few t = le→leb (length (resting w)) mostOrders (omega (arith, resting-length w, isBook-laidOut w t .header .few))
 
-      there : T (soundWords w) → T (conj (headerConditions (venueOf w)) && BookTests)
+      there : T (soundWords w) → T (conj (headerConditions (venueOf w)) && (KeptTests && BookTests))
       there t =
           let a = words-each t in
-          T-and (conj (headerConditions (venueOf w))) BookTests (T-conj (headerConditions (venueOf w)) (a .1 .1 .1 .1 .1)) (parts-soundBook (getD w 7 0) (getD w 4 0) (getD w 5 0) w (record { layout = a .0; rising = a .1 .1 .0; orders = every-T (soundOrder (getD w 7 0) (getD w 4 0) (getD w 5 0)) (resting w) (a .1 .1 .1 .0); stamps = a .1 .1 .1 .1 .0 }))
+          T-and (conj (headerConditions (venueOf w))) (KeptTests && BookTests) (T-conj (headerConditions (venueOf w)) (a .1 .1 .1 .1 .1 .1)) (T-and KeptTests BookTests (a .1 .1 .1 .1 .1 .0) (parts-soundBook (getD w 7 0) (getD w 4 0) (getD w 5 0) w (record { layout = a .0; rising = a .1 .1 .0; orders = every-T (soundOrder (getD w 7 0) (getD w 4 0) (getD w 5 0)) (resting w) (a .1 .1 .1 .0); stamps = a .1 .1 .1 .1 .0 })))
 
-      back : T (conj (headerConditions (venueOf w)) && BookTests) → T (soundWords w)
+      back : T (conj (headerConditions (venueOf w)) && (KeptTests && BookTests)) → T (soundWords w)
       back t =
-          let h = and-T (conj (headerConditions (venueOf w))) BookTests t in
-          let p = soundBook-parts (getD w 7 0) (getD w 4 0) (getD w 5 0) w (h .1) in
-          T-and (isBook w) (sound (venueOf w)) (p .layout) (T-conj (venueConditions (venueOf w)) (few (p .layout), (p .rising, (T-every (soundOrder (getD w 7 0) (getD w 4 0) (getD w 5 0)) (resting w) (p .orders), (p .stamps, conj-T (headerConditions (venueOf w)) (h .0))))))
+          let h = and-T (conj (headerConditions (venueOf w))) (KeptTests && BookTests) t in
+          let k = and-T KeptTests BookTests (h .1) in
+          let p = soundBook-parts (getD w 7 0) (getD w 4 0) (getD w 5 0) w (k .1) in
+          T-and (isBook w) (sound (venueOf w)) (p .layout) (T-conj (venueConditions (venueOf w)) (few (p .layout), (p .rising, (T-every (soundOrder (getD w 7 0) (getD w 4 0) (getD w 5 0)) (resting w) (p .orders), (p .stamps, (k .0, conj-T (headerConditions (venueOf w)) (h .0)))))))
 
   pub short-words : length w < venueWords → soundWords w ≡ false
   short-words l = T-false (soundWords w) (not-T (soundWords w) (λ t. omega (arith, isBook-laidOut w (words-each t .0) .header .long)))

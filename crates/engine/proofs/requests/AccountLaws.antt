@@ -7,6 +7,7 @@ use mathlib.Core.List.{List, [], _∷_, _++_, map, foldl, foldl-append, foldl-ma
 use mathlib.Core.Option.{Option, none, some}
 use mathlib.Core.Bool.{Bool}
 use Rattle.numbers.proofs.TestLaws.{by-test}
+use Rattle.prices.specs.declared.TimedPrice.{TimedPrice}
 use Rattle.book.specs.declared.Order.{Order}
 use Rattle.book.specs.rules.Orders.{without, insert}
 use Rattle.book.specs.rules.Sound.{mostOwner}
@@ -24,12 +25,12 @@ use Rattle.engine.specs.rules.Market.{marketAfter}
 use Rattle.engine.specs.rules.Reports.{Report, accepted, cancelled, repriced, restrictionStarts, dayEnded, pauseTriggered}
 use Rattle.engine.specs.rules.Working.{orderOf, remainder, afterRemainder, happened, work}
 use Rattle.engine.specs.rules.Pass.{atNewPrice, Effect, afterMove}
-use Rattle.engine.specs.rules.Venue.{Venue, opened, entering, effectOfEntry, effectOfCancel, thePass, restrictionReport, effectOfTape, cancelledAtEnd, effectOfDayEnd, effectOf, lastIdAfter}
+use Rattle.engine.specs.rules.Venue.{Venue, opened, entering, effectOfEntry, effectOfCancel, thePass, restrictionReport, effectOfTape, effectOfTimedTape, cancelledAtEnd, effectOfDayEnd, effectOf, lastIdAfter}
 use Rattle.engine.specs.rules.Run.{Step, stepUnless, step, Call, Answered, Run, run}
 use Rattle.engine.specs.steps.Steps.{moveInPass}
 use Rattle.engine.specs.claims.Reading.{Entered, enteredBy, Reading, afterAnswer, readFrom}
 use Rattle.engine.proofs.refinement.RefusalLaws.{EntryAllowed, Allowed, NotRefused, Unless, refusal-known}
-use Rattle.engine.proofs.demand3.MarketLaws.{HasPermitted}
+use Rattle.engine.proofs.demand3.MarketLaws.{HasPermitted, pause-by}
 use Rattle.engine.proofs.demand3.SoundLaws.{SoundBook, SoundWork, RemainderOf, remainder-known, meeting-sound, moveOf-sound, atNewPrice-sound, book-order, SoundVenue, sound-venue, market-permits, orderOf-sound}
 use Rattle.engine.proofs.requests.PassLaws.{AfterReading, thePass-reads}
 
@@ -70,10 +71,11 @@ module _ {A : Type 0} (r : Reading A) (I : ℕ → ℕ → List Order → A → 
     -- orders leave the book
     pub leaves : (n s i : ℕ) (os : List Order) (c : A) → I n s os c → I n s (without i os) c
     pub empties : (n s : ℕ) (os : List Order) (c : A) → I n s os c → I n s [] c
-    -- reports that change nothing in it: 3 with another cause than 5, 5 and 6
+    -- reports that change nothing in it: 3 with another cause than 5, 5, 6 and 7
     pub cancelledUnread : (c : A) (i q cause : ℕ) → cause ≤ 4 → r .read c (cancelled i q cause) ≡ c
     pub startUnread : (c : A) → r .read c restrictionStarts ≡ c
     pub endUnread : (c : A) (p : ℕ) → r .read c (dayEnded p) ≡ c
+    pub pauseUnread : (c : A) (d p : ℕ) → r .read c (pauseTriggered d p) ≡ c
 
   module _ (k : Kept) where
     -- an order works
@@ -117,6 +119,11 @@ module _ {A : Type 0} (r : Reading A) (I : ℕ → ℕ → List Order → A → 
           let p : Effect = thePass m v in
           by-test (λ (rs : List Report). I (v .lastId) (p .stamp) (p .orders) (foldl (r .read) (r .begin none c) (rs ++ p.reports))) _ (λ x. pass-reads) (λ x. rw (foldl, k .startUnread (r .begin none c)) pass-reads)
 
+      timed-tape-reads : (x : TimedPrice) → AfterReading (r .read) (I (v .lastId)) (effectOfTimedTape m v x) (r .begin none c)
+      timed-tape-reads x =
+          let t : Effect = effectOfTape m v in
+          pause-by (λ (rs : List Report). I (v .lastId) (t .stamp) (t .orders) (foldl (r .read) (r .begin none c) (rs ++ t.reports))) (x .price) _ tape-reads (λ d l. rw (foldl, k .pauseUnread (r .begin none c) d (x .price)) tape-reads)
+
     all-cancelled : (c : A) (p : ℕ) (os : List Order) → foldl (r .read) c (map cancelledAtEnd os ++ dayEnded p ∷ []) ≡ c
     all-cancelled c p [] = k .endUnread c p
     all-cancelled c p (o ∷ os) = rw (foldl, k .cancelledUnread c (o .id) (o .shares) 4 (omega arith)) (all-cancelled c p os)
@@ -129,6 +136,7 @@ module _ {A : Type 0} (r : Reading A) (I : ℕ → ℕ → List Order → A → 
     effect-reads v (tape p) c a g h = tape-reads _ v c (market-permits (g .market)) (g .book) h
     effect-reads v (dayEnd p) c a g h = rw (all-cancelled (r .begin none c) _ (v .orders)) (k .empties (v .lastId) (v .lastStamp) (v .orders) _ (k .begins (v .lastId) (v .lastStamp) (v .orders) c h))
     effect-reads v (ownedEntry e o) c a g h = entry-reads v (record { entry = e; owner = o }) c (a .0) (a .1 .most) g h
+    effect-reads v (timedTape x) c a g h = timed-tape-reads _ v c (market-permits (g .market)) (g .book) h x
 
     -- every list
 

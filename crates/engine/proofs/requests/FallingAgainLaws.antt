@@ -33,7 +33,7 @@ use Rattle.engine.specs.rules.Market.{marketAfter, permittedNow}
 use Rattle.engine.specs.rules.Reports.{Report, accepted, executed, cancelled, repriced, restrictionStarts, dayEnded, pauseTriggered}
 use Rattle.engine.specs.rules.Working.{remainder, afterRemainder, happened, work}
 use Rattle.engine.specs.rules.Pass.{afterMove, passOne, passOver}
-use Rattle.engine.specs.rules.Venue.{Venue, opened, entering, effectOfEntry, effectOfCancel, thePass, restrictionReport, cancelledAtEnd, effectOfDayEnd, effectOf}
+use Rattle.engine.specs.rules.Venue.{Venue, opened, entering, effectOfEntry, effectOfCancel, thePass, restrictionReport, effectOfTape, cancelledAtEnd, effectOfDayEnd, effectOf}
 use Rattle.engine.specs.rules.Sound.{mostEvents, sound}
 use Rattle.engine.specs.rules.Refusals.{refuseUnless, refusalOfKind, leastBuffer, refusal}
 use Rattle.engine.specs.rules.Run.{Step, stepUnless, step, Call, Run, run}
@@ -41,7 +41,8 @@ use Rattle.engine.specs.rules.Records.{reportBytes, reportsBytes}
 use Rattle.engine.specs.rules.Answers.{countOf, bufferAfter}
 use Rattle.engine.specs.rules.Layout.{venueOf, stepIn}
 use Rattle.engine.specs.claims.Calls.{Applied, AppliedCall, Chain}
-use Rattle.engine.specs.claims.FallingAgain.{inPhase, tapeStep, TapeTable, TapeEvents, tapeBytes, TapeLeaves, TapeCallTable, TapeCalls, PassAsBefore, Falls, noFalls, fallsAfter, fallsAnswered, fallsFrom, phaseBy, phaseReportsDue, phaseReports, ReportsPhase, AllReportPhase, RestrictedByFalls, CallsByFalls, RestrictedByFallsInCalls, phasesTold, SlumpRestricted}
+use Rattle.engine.specs.claims.FallingAgain.{inPhase, tapeStep, TapeTable, TapeEvents, tapeBytes, TapeLeaves, TapeCallTable, TapeCalls, PassAsBefore, Falls, noFalls, fallsAfter, fallsAnswered, fallsFrom, phaseBy, firstFall, phaseReportsDue, phaseReports, ReportsPhase, AllReportPhase, RestrictedByFalls, CallsByFalls, RestrictedByFallsInCalls, phasesTold, SlumpRestricted}
+use Rattle.engine.proofs.demand3.MarketLaws.{pause-by}
 use Rattle.engine.proofs.refinement.StepLaws.{reports-append}
 use Rattle.engine.proofs.refinement.QuoteLaws.{restriction-same, restriction-new}
 use Rattle.engine.proofs.requests.PassLaws.{same-pass}
@@ -136,6 +137,7 @@ phase-append (cancelled i q z ∷ xs) ys = phase-append xs ys
 phase-append (repriced i p s ∷ xs) ys = phase-append xs ys
 phase-append (restrictionStarts ∷ xs) ys = ap (λ (rs : List Report). restrictionStarts ∷ rs) (phase-append xs ys)
 phase-append (dayEnded k ∷ xs) ys = ap (λ (rs : List Report). dayEnded k ∷ rs) (phase-append xs ys)
+phase-append (pauseTriggered d p ∷ xs) ys = phase-append xs ys
 
 happenings-no-phase : (xs : List Happening) → phaseReports (map happened xs) ≡ []
 happenings-no-phase [] = refl
@@ -220,6 +222,7 @@ market-agrees (bid b) m f h = record { close = h .close; phase = h .phase }
 market-agrees (tape p) m f h = record { close = h .close; phase = rw (h .close, h .phase) (tape-by-falls f p) }
 market-agrees (dayEnd c) m f h = record { close = refl; phase = rw (h .phase) (day-end-by-falls f c) }
 market-agrees (ownedEntry e k) m f h = h
+market-agrees (timedTape x) m f h = market-agrees (tape (x .price)) m f h
 
 -- the reports that are due
 
@@ -239,16 +242,20 @@ restriction-due k m f p = go (f .today) (f .dayBefore) (triggers (f .close) p)
     go false true true x y = new (λ z. omega arith)
     go false false true x y = new (λ z. omega arith)
 
+tape-due : (v : Venue) (p : ℕ) (f : Falls) → Agrees (v .market) f → phaseReports ((effectOfTape (marketAfter (tape p) (v .market)) v) .reports) ≡ phaseReportsDue (tape p) f
+tape-due v p f h =
+    let m : Market = marketAfter (tape p) (v .market) in
+    phase-append (restrictionReport (v .market) m) _ ∙ rw (the-pass-no-phase m v, append-nil) (restriction-due (v .market) m f p (h .phase) (market-agrees (tape p) (v .market) f h .phase))
+
 reports-due : (v : Venue) (e : Event) (f : Falls) → Agrees (v .market) f → phaseReports ((effectOf (marketAfter e (v .market)) v e) .reports) ≡ phaseReportsDue e f
 unfolding effectOf entering effectOfEntry effectOfCancel effectOfDayEnd pick
 reports-due v (entry e) f h = work-no-phase _ (v .orders)
 reports-due v (cancel i) f h = refl
 reports-due v (bid b) f h = the-pass-no-phase _ v
-reports-due v (tape p) f h =
-    let m : Market = marketAfter (tape p) (v .market) in
-    phase-append (restrictionReport (v .market) m) _ ∙ rw (the-pass-no-phase m v, append-nil) (restriction-due (v .market) m f p (h .phase) (market-agrees (tape p) (v .market) f h .phase))
+reports-due v (tape p) f h = tape-due v p f h
 reports-due v (dayEnd c) f h = day-end-last (v .orders) _ ∙ ap (λ (k : ℕ). dayEnded k ∷ []) (rw (h .phase) (day-end-by-falls f c))
 reports-due v (ownedEntry e k) f h = work-no-phase _ (v .orders)
+reports-due v (timedTape x) f h = pause-by (λ (rs : List Report). phaseReports (rs ++ effectOfTape (marketAfter (timedTape x) (v .market)) v .reports) ≡ firstFall (x .price) f) (x .price) _ (tape-due v (x .price) f h) (λ d l. tape-due v (x .price) f h)
 
 -- every list
 
@@ -296,6 +303,7 @@ carriedStep c v =
           record {
             market = record { close = c; phase = 2; bid = 0; step = v.market.step };
             orders = [];
+            kept = [];
             lastId = v.lastId;
             lastStamp = v.lastStamp;
             acceptedEvents = v.acceptedEvents + 1;

@@ -120,6 +120,7 @@ kind-without7 v (cancel i) = nothing-left-out _
 kind-without7 v (bid b) = nothing-left-out _
 kind-without7 v (tape p) = nothing-left-out _
 kind-without7 v (dayEnd c) = nothing-left-out _
+kind-without7 v (timedTape p) = nothing-left-out _
 kind-without7 v (ownedEntry e k) = entry-without7 v e (refusalOfOwner k) (owner-stays (needsNoPlace (v .market) e) k)
 
 refusal-without7 : (v : Venue) (x : Event) (b : ℕ) → refusal v x b ≡ without7 (eventNeedsNoPlace (v .market) x) (refusalWith beforeNo8 v x b)
@@ -157,6 +158,7 @@ module _ (v : Venue) (h : length (v .orders) < mostOrders) where
   kind-with-room (bid b) = refl
   kind-with-room (tape p) = refl
   kind-with-room (dayEnd c) = refl
+  kind-with-room (timedTape p) = refl
   kind-with-room (ownedEntry e k) = entry-with-room e (refusalOfOwner k)
 
   refusal-with-room : (x : Event) (b : ℕ) → refusalWith beforeNo8 v x b ≡ refusal v x b
@@ -221,6 +223,7 @@ module _ (v : Venue) (s : SoundVenue v) where
   event-takes-none (bid b) t = absurd t
   event-takes-none (tape p) t = absurd t
   event-takes-none (dayEnd c) t = absurd t
+  event-takes-none (timedTape p) t = absurd t
   event-takes-none (ownedEntry e k) t = entry-takes-none e k t
 
 -- of an event

@@ -34,6 +34,7 @@ module _ (v : Venue) (h : v.market.step ≡ 100) where
   kept (tape p) = h
   kept (dayEnd c) = h
   kept (ownedEntry e k) = h
+  kept (timedTape x) = h
 
   kinds : (e : Event) → refusalOfKind v e ≡ refusalBefore v e
   unfolding refusalOfKind refusalOfEntry refusalOfTerms legal isBid
@@ -43,6 +44,7 @@ module _ (v : Venue) (h : v.market.step ≡ 100) where
   kinds (tape p) = rw h
   kinds (dayEnd c) = rw h
   kinds (ownedEntry e k) = rw h
+  kinds (timedTape x) = rw h
 
   records : sound v ≡ soundBefore v
   unfolding sound soundOrder isStep legal isBid
@@ -75,6 +77,7 @@ module _ (s t : ℕ) (m : Market) (h : permitted s (m .bid) ≡ permitted t (m .
   same-effect v (tape p) = rw (pass _ (v .orders) (v .lastStamp))
   same-effect v (dayEnd c) = refl
   same-effect v (ownedEntry e k) = ap (λ (o : Order). entering o (v .orders)) (same-order (v .lastStamp + 1) k e)
+  same-effect v (timedTape x) = rw (pass _ (v .orders) (v .lastStamp))
 
 pub cents-as-before : CentsAsBefore
 unfolding opening atStep isStep legal pick

@@ -123,6 +123,7 @@ module _ (i : ℕ) (flag : Bool) where
   effectOf-flagged v (tape p) l a g f = thePass-flagged _ v (market-permits (g .market)) (g .book) f
   effectOf-flagged v (dayEnd c) l a g f = tt
   effectOf-flagged v (ownedEntry e k) l a g f = effectOfEntry-flagged v e k l (a .0) g f
+  effectOf-flagged v (timedTape x) l a g f = thePass-flagged _ v (market-permits (g .market)) (g .book) f
 
 -- what was found under an id rests, with that id
 found : {i : ℕ} {os : List Order} {o : Order} → find i os ≡ some o → List·Memᴰ o os × (o.id ≡ i)
@@ -209,6 +210,7 @@ effectOf-stays v (bid b) o q z a g said h = thePass-turns _ v (g .market .step, 
 effectOf-stays v (tape p) o q z a g said h = thePass-turns _ v (market-permits (g .market)) (g .book) (List·Memᴰ o) (turn-stays _ z (v .lastId) o said) h
 effectOf-stays v (dayEnd c) o q z a g said h = absurd q
 effectOf-stays v (ownedEntry e k) o q z a g said h = absurd q
+effectOf-stays v (timedTape x) o q z a g said h = thePass-turns _ v (market-permits (g .market)) (g .book) (List·Memᴰ o) (turn-stays _ z (v .lastId) o said) h
 
 stepUnless-stays : (x : Option ℕ) (v : Venue) (e : Event) (buffer : ℕ) → Unless x (NotRefused v e buffer) → T (runsPass e) → (marketAfter e (v .market)) .bid ≡ 0 → (i : ℕ) (o : Order) → find i (v .orders) ≡ some o → T (o .market) → find i ((stepUnless x v e) .venue .orders) ≡ some o
 unfolding stepUnless

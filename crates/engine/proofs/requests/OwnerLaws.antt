@@ -186,6 +186,7 @@ owners-kept =
       cancelledUnread = λ c i q cause l. pick-no (eqb cause 5) _ _ (ne→T cause 5 (λ e. omega (arith, l)));
       startUnread = λ c. refl;
       endUnread = λ c p. refl;
+      pauseUnread = λ c d p. refl;
     }
 
 opened-agrees : (s close : ℕ) (cs : List Call) → let r : Run = run (opened s close) cs in Agrees (r .venue .orders) (ownersOf (r .answered))
@@ -259,6 +260,8 @@ effect-before v (tape p) a g h o =
     rw (pass-before (marketAfter (tape p) (v .market)) (market-permits (g .market)) (v .lastId) (map idOf (v .orders)) (v .orders) (v .lastStamp) (g .book) h)
 effect-before v (dayEnd c) a g h o = refl
 effect-before v (ownedEntry e k) a g h o = absurd o
+effect-before v (timedTape x) a g h o =
+    rw (pass-before (marketAfter (timedTape x) (v .market)) (market-permits (g .market)) (v .lastId) (map idOf (v .orders)) (v .orders) (v .lastStamp) (g .book) h)
 
 effect-unowned : (v : Venue) (e : Event) → Allowed v e → SoundVenue v → All Unowned (v .orders) → NamesNoOwner e → All Unowned ((effectOf (marketAfter e (v .market)) v e) .orders)
 unfolding effectOf effectOfEntry entering orderOf effectOfCancel effectOfDayEnd
@@ -268,6 +271,7 @@ effect-unowned v (bid b) a g h o = thePass-all Unowned (λ z q k. k) (λ price s
 effect-unowned v (tape p) a g h o = thePass-all Unowned (λ z q k. k) (λ price stamp used x k. k) _ v (market-permits (g .market)) (g .book) h
 effect-unowned v (dayEnd c) a g h o = tt
 effect-unowned v (ownedEntry e k) a g h o = absurd o
+effect-unowned v (timedTape x) a g h o = thePass-all Unowned (λ z q k. k) (λ price stamp used y k. k) _ v (market-permits (g .market)) (g .book) h
 
 kind-one-done : (v : Venue) (e : Entry) → stepUnless none v (entry e) ≡ unownedUnless none v (entry e)
 unfolding stepUnless unownedUnless effectOf effectOfEntry
@@ -323,6 +327,7 @@ executions-append (cancelled i q cause ∷ rs) qs = executions-append rs qs
 executions-append (repriced i p s ∷ rs) qs = executions-append rs qs
 executions-append (restrictionStarts ∷ rs) qs = executions-append rs qs
 executions-append (dayEnded p ∷ rs) qs = executions-append rs qs
+executions-append (pauseTriggered d p ∷ rs) qs = executions-append rs qs
 
 happened-executions : (hs : List Happening) → executionsIn (map happened hs) ≡ executionsOf hs
 unfolding executionsOf

@@ -273,6 +273,7 @@ prices-kept then =
       cancelledUnread = λ c i q cause l. refl;
       startUnread = λ c. refl;
       endUnread = λ c p. refl;
+      pauseUnread = λ c d p. refl;
     }
 
 -- Every list

@@ -115,6 +115,7 @@ stamps-kept =
       cancelledUnread = λ c i q cause l. refl;
       startUnread = λ c. refl;
       endUnread = λ c p. refl;
+      pauseUnread = λ c d p. refl;
     }
 
 pub opened-stamps : (s close : ℕ) (cs : List Call) → let r : Run = run (opened s close) cs in StampsAgree (r .venue .lastId) (r .venue .lastStamp) (r .venue .orders) (stampsOf (r .answered))

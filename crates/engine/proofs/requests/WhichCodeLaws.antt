@@ -7,18 +7,19 @@ use mathlib.Core.Option.{Option, none, some}
 use lib.ListN.{length}
 use Rattle.numbers.specs.Tests.{pick, conj}
 use Rattle.numbers.specs.Answers.{Outcome, gives, refuses}
+use Rattle.prices.specs.declared.TimedPrice.{TimedPrice}
 use Rattle.engine.specs.declared.Entry.{Entry}
 use Rattle.engine.specs.declared.Event.{Event}
 use Rattle.engine.specs.declared.Event.the-variants.{Entry as entry, Cancel as cancel, Bid as bid, Tape as tape, DayEnd as dayEnd, OwnedEntry as ownedEntry, TimedTape as timedTape}
 use Rattle.engine.specs.rules.Reports.{Report}
 use Rattle.engine.specs.rules.Venue.{Venue}
-use Rattle.engine.specs.rules.Refusals.{refuseUnless, firstOf, refusalOfTerms, refusalOfCodes, refusalOfOwner, refusalOfPlace, refusalOfEntry, refusalOfKind, refusal}
+use Rattle.engine.specs.rules.Refusals.{refuseUnless, firstOf, refusalOfTerms, refusalOfCodes, refusalOfOwner, refusalOfPlace, refusalOfEntry, refusalOfTime, refusalOfKind, refusal}
 use Rattle.engine.specs.rules.Run.{Step, stepUnless, step}
 use Rattle.engine.specs.rules.Answers.{countOf, bufferAfter}
 use Rattle.engine.specs.rules.Layout.{venueOf, stepIn}
 use Rattle.engine.specs.claims.WhichCode.{codesBefore, beforeNo3, readAs5, refusalRead, answerRead, CodesAsBefore, CallsAsBefore}
 use Rattle.engine.specs.claims.OtherRefusals.{kindWith, refusalWith, stepWith, stepInWith}
-use Rattle.engine.proofs.refinement.RefusalLaws.{terms-by, owner-by, place-by}
+use Rattle.engine.proofs.refinement.RefusalLaws.{terms-by, owner-by, place-by, time-by}
 use Rattle.engine.proofs.requests.WordStepLaws.{in-words}
 
 -- of the refusals
@@ -63,6 +64,10 @@ owner-read : (k : ℕ) → Stays (refusalOfOwner k)
 unfolding pick
 owner-read = owner-by Stays refl refl
 
+time-read : (kept : List TimedPrice) (t : ℕ) → Stays (refusalOfTime kept t)
+unfolding pick
+time-read = time-by Stays refl refl refl
+
 entry-read : (v : Venue) (e : Entry) (ofOwner : Option ℕ) → refusalRead ofOwner ≡ ofOwner → refusalRead (refusalOfEntry v e ofOwner) ≡ beforeNo3 v e ofOwner
 unfolding refusalOfEntry
 entry-read v e ofOwner h =
@@ -76,6 +81,7 @@ kind-read v (bid b) = read-later _ 3 none none refl refl
 kind-read v (tape p) = read-later _ 3 none none refl refl
 kind-read v (dayEnd c) = read-later _ 3 none none refl refl
 kind-read v (ownedEntry e k) = entry-read v e (refusalOfOwner k) (owner-read k)
+kind-read v (timedTape p) = read-later _ 3 _ _ refl (time-read (v .kept) (p .time))
 
 refusal-read : (v : Venue) (x : Event) (n : ℕ) → refusalRead (refusal v x n) ≡ refusalWith beforeNo3 v x n
 unfolding refusal pick
