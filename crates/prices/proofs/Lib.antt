@@ -4,3 +4,5 @@ pub mod RestrictionLaws
 pub mod Returned
 pub mod HalfCentLaws
 pub mod FallingAgainLaws
+pub mod PauseLaws
+pub mod KeptWordLaws
