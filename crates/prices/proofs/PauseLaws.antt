@@ -260,5 +260,4 @@ direction-none false p = refl
 
 pub direction-few : (p : ℕ) (xs : List TimedPrice) → direction p xs ≤ 2
 unfolding direction
-direction-few p xs =
-    by-test (λ (d : ℕ). d ≤ 2) (someFall p xs) (λ a. omega arith) (λ a. by-test (λ (d : ℕ). d ≤ 2) (someRise p xs) (λ b. omega arith) (λ b. omega arith))
+direction-few p xs = by-test (λ (d : ℕ). d ≤ 2) _ (λ a. omega arith) (λ a. by-test (λ (d : ℕ). d ≤ 2) _ (λ b. omega arith) (λ b. omega arith))

@@ -54,12 +54,21 @@ loop-again : tie.Need-loop-again Inv-loop μ-loop
 loop-again c =
     let t = c .before .before in
     let l = t .before .before .loop in
-    let step = ap (directionOn (l .rises) _) (kept-next _ _ _ (l .i) (t .before .loop-test .taken)) in
+    let next = kept-next _ _ _ (l .i) (t .before .loop-test .taken) in
     let no-fall = c .before .if1 .left in
-    (sym (step ∙ elim (c .if2 .came) [ inl y ↦ rw (y .1) (direction-rises (l .rises) _ _ _ (omega (arith, no-fall, t .price-at .ensures)) (omega (arith, y .0 .taken, t .price-at .ensures))) | inr y ↦ rw (y .1) (direction-next (l .rises) _ _ _ (omega (arith, no-fall, t .price-at .ensures)) (omega (arith, y .0 .left, t .price-at .ensures))) ]) ∙ l .inv .0, search needs)
+    let price = t .price-at .ensures in (
+      sym
+          (ap (directionOn (l .rises) _) next ∙
+          elim (c .if2 .came) [
+            | inl y ↦ rw (y .1) (direction-rises (l .rises) _ _ _ (omega (arith, no-fall, price)) (omega (arith, y .0 .taken, price)))
+            | inr y ↦ rw (y .1) (direction-next (l .rises) _ _ _ (omega (arith, no-fall, price)) (omega (arith, y .0 .left, price)))
+          ]) ∙
+          l .inv .0,
+      search needs,
+    )
 
 -- no price is left
-at-end : (c : tie.After-loop Inv-loop μ-loop) → pick (c .before .loop .rises) 2 0 ≡ Pause.direction (c .before .before .before .args .price) (drop (c .before .before .before .args .from) (keptIn (c .before .before .before .args .w .now) (c .before .before .before .args .at) (c .before .before .before .args .n)))
+at-end : (c : tie.After-loop Inv-loop μ-loop) → let a = c .before .before .before .args in pick (c .before .loop .rises) 2 0 ≡ Pause.direction (a .price) (drop (a .from) (keptIn (a .w .now) (a .at) (a .n)))
 at-end c =
     let l = c .before .loop in
     sym (ap (directionOn (l .rises) _) (kept-over _ _ _ (l .i) (c .loop-test .left)) ∙ direction-none (l .rises) _) ∙ l .inv .0

@@ -37,7 +37,7 @@ is-legal-requires : tie.Need-is-legal-requires Inv-loop μ-loop
 is-legal-requires c κs = search needs
 
 -- what the answer says of the price at i
-is-legal-at : (c : tie.After-is-legal Inv-loop μ-loop) → c .is-legal .result ≡ legal (c .before .before .before .before .before .before .before .args .step) (priceAt (c .before .before .before .before .before .before .before .args .w .now) (c .before .before .before .before .before .before .before .args .at) (c .before .before .before .before .before .loop .i) .price)
+is-legal-at : (c : tie.After-is-legal Inv-loop μ-loop) → let t = c .before .before .before .before .before in let a = t .before .before .args in c .is-legal .result ≡ legal (a .step) (priceAt (a .w .now) (a .at) (t .loop .i) .price)
 is-legal-at c = c .is-legal .ensures ∙ ap (legal _) (c .before .price-at .ensures)
 
 returns-2 : tie.Need-returns-2 Inv-loop μ-loop
@@ -56,7 +56,12 @@ loop-again : tie.Need-loop-again Inv-loop μ-loop
 loop-again c =
     let t = c .before .before .before .before in
     let l = t .before .before .loop in
-    (rw (t .time-at .ensures) (sym (ap (inOrder _ (l .before)) (kept-next _ _ _ (l .i) (t .before .loop-test .taken)) ∙ in-order-next _ _ _ _ (omega (arith, c .before .before .before .if1 .left, t .time-at .ensures)) (sym (is-legal-at (c .before)) ∙ not-no _ (c .if2 .left))) ∙ l .inv .0), search needs)
+    let next = kept-next _ _ _ (l .i) (t .before .loop-test .taken) in
+    let time = t .time-at .ensures in (
+      rw time
+          (sym (ap (inOrder _ (l .before)) next ∙ in-order-next _ _ _ _ (omega (arith, c .before .before .before .if1 .left, time)) (sym (is-legal-at (c .before)) ∙ not-no _ (c .if2 .left))) ∙ l .inv .0),
+      search needs,
+    )
 
 returns-3 : tie.Need-returns-3 Inv-loop μ-loop
 returns-3 c =
