@@ -7,6 +7,7 @@ pub mod Reading
 pub mod Owners
 pub mod Stamps
 pub mod SlidPrices
+pub mod Pauses
 pub mod Examples
 pub mod Calls
 pub mod MarketOrders

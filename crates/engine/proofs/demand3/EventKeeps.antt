@@ -22,6 +22,7 @@ use Rattle.engine.specs.declared.Event.the-variants.{Entry as entry, Can
 use Rattle.engine.specs.rules.Market.{restricted, marketAfter}
 use Rattle.engine.specs.rules.Reports.{Report, cancelled, dayEnded, endOfDay}
 use Rattle.engine.specs.rules.Working.{workingPrice, orderOf}
+use Rattle.engine.specs.rules.Pass.{Effect}
 use Rattle.engine.specs.rules.Venue.{Venue, opened, entering, effectOfEntry, effectOfCancel, thePass, restrictionReport, effectOfTape, effectOfTimedTape, effectOfDayEnd, effectOf, lastIdAfter}
 use Rattle.engine.specs.rules.Refusals.{refusal}
 use Rattle.engine.specs.rules.Run.{stepUnless, step, Call, run}

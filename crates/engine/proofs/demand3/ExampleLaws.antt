@@ -7,6 +7,7 @@ use Rattle.numbers.specs.SevenBit
 use Rattle.prices.specs.Prices
 use Rattle.prices.specs.Restriction
 use Rattle.prices.specs.Watch
+use Rattle.prices.specs.Pause
 use Rattle.book.specs.rules.Orders
 use Rattle.book.specs.rules.Matching
 use Rattle.book.specs.rules.Fill as front
@@ -33,17 +34,17 @@ unfolding Prices.legal Prices.isBid Prices.permitted Tests.pick
 half-cent-sums = tt
 
 pub played : Played
-unfolding Tests.pick Tests.every Prices.isStep Prices.legal Prices.isBid Prices.permitted Restriction.triggers Restriction.phaseAfterTape Restriction.phaseAfterDayEnd Restriction.restrictionOn Orders.find Orders.ifSame Orders.restingShares Orders.without Orders.insert Matching.reaches Matching.better Matching.betterOf Matching.bestFrom Matching.best Matching.counterparty Matching.execution Matching.afterTrade Matching.trading Matching.withdrawing Matching.sameOwner Matching.meeting Matching.matchingWith Matching.matchingUpTo Matching.matching order-conditions.idsRise order-conditions.stampsDiffer order-conditions.soundOrder Market.restricted Market.permittedNow Working.limitOf Working.followsBid Working.lifeOf Working.workingPrice Working.orderOf Working.remainder Working.afterRemainder Working.work Pass.displayedClear Pass.moveDown Pass.slideOnce Pass.slideDown Pass.maySlide Pass.moveOf Pass.afterMove Pass.passOne Pass.passOver Venue.opened Venue.entering Venue.effectOfEntry Venue.effectOfCancel Venue.thePass Venue.restrictionReport Venue.effectOfDayEnd Venue.effectOf Sound.sound Refusals.refuseUnless Refusals.firstOf Refusals.refusalOfTerms Refusals.refusalOfCodes Refusals.refusalOfOwner Refusals.refusalOfPlace Refusals.refusalOfEntry Refusals.rests Refusals.refusalOfKind Refusals.refusal Run.stepUnless Run.step Run.run
+unfolding Tests.pick Tests.every Prices.isStep Prices.legal Prices.isBid Prices.permitted Restriction.triggers Restriction.phaseAfterTape Restriction.phaseAfterDayEnd Restriction.restrictionOn Orders.find Orders.ifSame Orders.restingShares Orders.without Orders.insert Matching.reaches Matching.better Matching.betterOf Matching.bestFrom Matching.best Matching.counterparty Matching.execution Matching.afterTrade Matching.trading Matching.withdrawing Matching.sameOwner Matching.meeting Matching.matchingWith Matching.matchingUpTo Matching.matching Pause.lastTime Pause.timesInOrder Pause.soundKept order-conditions.idsRise order-conditions.stampsDiffer order-conditions.soundOrder Market.restricted Market.permittedNow Working.limitOf Working.followsBid Working.lifeOf Working.workingPrice Working.orderOf Working.remainder Working.afterRemainder Working.work Pass.displayedClear Pass.moveDown Pass.slideOnce Pass.slideDown Pass.maySlide Pass.moveOf Pass.afterMove Pass.passOne Pass.passOver Venue.opened Venue.entering Venue.effectOfEntry Venue.effectOfCancel Venue.thePass Venue.restrictionReport Venue.effectOfDayEnd Venue.effectOf Sound.sound Refusals.refuseUnless Refusals.firstOf Refusals.refusalOfTerms Refusals.refusalOfCodes Refusals.refusalOfOwner Refusals.refusalOfPlace Refusals.refusalOfEntry Refusals.rests Refusals.refusalOfKind Refusals.refusal Run.stepUnless Run.step Run.run
 played =
     record { theDay = refl; clearStays = refl; hiddenMoves = refl; slidingMatches = refl; newStamp = refl; notClear = refl; onceOnly = refl; marketDay = refl; limitOne = refl; bidOfOne = refl; onceKept = refl; halfCentDay = refl; fallingDays = (refl, (refl, tt)); secondFall = refl }
 
 pub firms-played : FirmsPlayedAtBoth
-unfolding Tests.pick Tests.every Prices.isStep Prices.legal Prices.isBid Prices.permitted Restriction.triggers Restriction.phaseAfterTape Restriction.phaseAfterDayEnd Restriction.restrictionOn Orders.find Orders.ifSame Orders.restingShares Orders.without Orders.insert Matching.reaches Matching.better Matching.betterOf Matching.bestFrom Matching.best Matching.counterparty Matching.execution Matching.afterTrade Matching.trading Matching.withdrawing Matching.sameOwner Matching.meeting Matching.matchingWith Matching.matchingUpTo Matching.matching order-conditions.idsRise order-conditions.stampsDiffer order-conditions.soundOrder Market.restricted Market.permittedNow Working.limitOf Working.followsBid Working.lifeOf Working.workingPrice Working.orderOf Working.remainder Working.afterRemainder Working.work Pass.displayedClear Pass.moveDown Pass.slideOnce Pass.slideDown Pass.maySlide Pass.moveOf Pass.afterMove Pass.passOne Pass.passOver Venue.opened Venue.entering Venue.effectOfEntry Venue.effectOfCancel Venue.thePass Venue.restrictionReport Venue.effectOfDayEnd Venue.effectOf Sound.sound Refusals.refuseUnless Refusals.firstOf Refusals.refusalOfTerms Refusals.refusalOfCodes Refusals.refusalOfOwner Refusals.refusalOfPlace Refusals.refusalOfEntry Refusals.rests Refusals.refusalOfKind Refusals.refusal Run.stepUnless Run.step Run.run Account.setAt
+unfolding Tests.pick Tests.every Prices.isStep Prices.legal Prices.isBid Prices.permitted Restriction.triggers Restriction.phaseAfterTape Restriction.phaseAfterDayEnd Restriction.restrictionOn Orders.find Orders.ifSame Orders.restingShares Orders.without Orders.insert Matching.reaches Matching.better Matching.betterOf Matching.bestFrom Matching.best Matching.counterparty Matching.execution Matching.afterTrade Matching.trading Matching.withdrawing Matching.sameOwner Matching.meeting Matching.matchingWith Matching.matchingUpTo Matching.matching Pause.lastTime Pause.timesInOrder Pause.soundKept order-conditions.idsRise order-conditions.stampsDiffer order-conditions.soundOrder Market.restricted Market.permittedNow Working.limitOf Working.followsBid Working.lifeOf Working.workingPrice Working.orderOf Working.remainder Working.afterRemainder Working.work Pass.displayedClear Pass.moveDown Pass.slideOnce Pass.slideDown Pass.maySlide Pass.moveOf Pass.afterMove Pass.passOne Pass.passOver Venue.opened Venue.entering Venue.effectOfEntry Venue.effectOfCancel Venue.thePass Venue.restrictionReport Venue.effectOfDayEnd Venue.effectOf Sound.sound Refusals.refuseUnless Refusals.firstOf Refusals.refusalOfTerms Refusals.refusalOfCodes Refusals.refusalOfOwner Refusals.refusalOfPlace Refusals.refusalOfEntry Refusals.rests Refusals.refusalOfKind Refusals.refusal Run.stepUnless Run.step Run.run Account.setAt
 firms-played =
     (record { entryMeets = refl; leftResting = refl; passMeets = refl; badOwners = refl; behindStays = refl; immediate = refl; optedOut = refl; market = refl; nobodys = refl; accountOfList = (refl, refl) }, (record { entryMeets = refl; leftResting = refl; passMeets = refl; badOwners = refl; behindStays = refl; immediate = refl; optedOut = refl; market = refl; nobodys = refl; accountOfList = (refl, refl) }, tt))
 
 pub full-book-played : FullBookPlayedAtBoth
-unfolding Tests.pick Tests.every Prices.isStep Prices.legal Prices.isBid Prices.permitted Restriction.restrictionOn Orders.without Orders.insert Matching.reaches Matching.better Matching.betterOf Matching.bestFrom Matching.best Matching.counterparty Matching.execution Matching.afterTrade Matching.trading Matching.sameOwner Matching.meeting Matching.matchingWith Matching.matchingUpTo Matching.matching order-conditions.idsRise order-conditions.stampsDiffer order-conditions.soundOrder Market.restricted Market.permittedNow Working.limitOf Working.followsBid Working.lifeOf Working.workingPrice Working.orderOf Working.remainder Working.afterRemainder Working.work Venue.entering Venue.effectOfEntry Venue.effectOf Sound.sound Refusals.refuseUnless Refusals.firstOf Refusals.refusalOfTerms Refusals.refusalOfCodes Refusals.refusalOfOwner Refusals.refusalOfPlace Refusals.refusalOfEntry Refusals.refusalOfKind Refusals.refusal Run.stepUnless Run.step Run.run
+unfolding Tests.pick Tests.every Prices.isStep Prices.legal Prices.isBid Prices.permitted Restriction.restrictionOn Orders.without Orders.insert Matching.reaches Matching.better Matching.betterOf Matching.bestFrom Matching.best Matching.counterparty Matching.execution Matching.afterTrade Matching.trading Matching.sameOwner Matching.meeting Matching.matchingWith Matching.matchingUpTo Matching.matching Pause.lastTime Pause.timesInOrder Pause.soundKept order-conditions.idsRise order-conditions.stampsDiffer order-conditions.soundOrder Market.restricted Market.permittedNow Working.limitOf Working.followsBid Working.lifeOf Working.workingPrice Working.orderOf Working.remainder Working.afterRemainder Working.work Venue.entering Venue.effectOfEntry Venue.effectOf Sound.sound Refusals.refuseUnless Refusals.firstOf Refusals.refusalOfTerms Refusals.refusalOfCodes Refusals.refusalOfOwner Refusals.refusalOfPlace Refusals.refusalOfEntry Refusals.refusalOfKind Refusals.refusal Run.stepUnless Run.step Run.run
 full-book-played =
     (record { handled = refl; byTerms = refl; withABid = refl; exempt = refl; withoutABid = refl; notRestricted = refl; ofFirms = refl }, (record { handled = refl; byTerms = refl; withABid = refl; exempt = refl; withoutABid = refl; notRestricted = refl; ofFirms = refl }, tt))
 
@@ -52,7 +53,7 @@ rising-refutes : (These : PricesGiven → Type 0) (xs : List Answered) (g : Pric
 rising-refutes These xs g e t n h = n (subst OnlyFall e (h 1 (subst These (sym e) t)))
 
 pub slid-prices-computed : SlidPricesComputed
-unfolding Tests.pick Tests.every Prices.isStep Prices.legal Prices.isBid Prices.permitted Restriction.triggers Restriction.phaseAfterTape Restriction.phaseAfterDayEnd Restriction.restrictionOn Orders.find Orders.ifSame Orders.restingShares Orders.without Orders.insert Matching.reaches Matching.better Matching.betterOf Matching.bestFrom Matching.best Matching.counterparty Matching.execution Matching.afterTrade Matching.trading Matching.withdrawing Matching.sameOwner Matching.meeting Matching.matchingWith Matching.matchingUpTo Matching.matching order-conditions.idsRise order-conditions.stampsDiffer order-conditions.soundOrder Market.restricted Market.permittedNow Working.limitOf Working.followsBid Working.lifeOf Working.workingPrice Working.orderOf Working.remainder Working.afterRemainder Working.work Pass.displayedClear Pass.moveDown Pass.slideOnce Pass.slideDown Pass.maySlide Pass.moveOf Pass.afterMove Pass.passOne Pass.passOver Venue.opened Venue.entering Venue.effectOfEntry Venue.effectOfCancel Venue.thePass Venue.restrictionReport Venue.effectOfDayEnd Venue.effectOf Sound.sound Refusals.refuseUnless Refusals.firstOf Refusals.refusalOfTerms Refusals.refusalOfCodes Refusals.refusalOfOwner Refusals.refusalOfPlace Refusals.refusalOfEntry Refusals.rests Refusals.refusalOfKind Refusals.refusal Run.stepUnless Run.step Run.run Account.setAt
+unfolding Tests.pick Tests.every Prices.isStep Prices.legal Prices.isBid Prices.permitted Restriction.triggers Restriction.phaseAfterTape Restriction.phaseAfterDayEnd Restriction.restrictionOn Orders.find Orders.ifSame Orders.restingShares Orders.without Orders.insert Matching.reaches Matching.better Matching.betterOf Matching.bestFrom Matching.best Matching.counterparty Matching.execution Matching.afterTrade Matching.trading Matching.withdrawing Matching.sameOwner Matching.meeting Matching.matchingWith Matching.matchingUpTo Matching.matching Pause.lastTime Pause.timesInOrder Pause.soundKept order-conditions.idsRise order-conditions.stampsDiffer order-conditions.soundOrder Market.restricted Market.permittedNow Working.limitOf Working.followsBid Working.lifeOf Working.workingPrice Working.orderOf Working.remainder Working.afterRemainder Working.work Pass.displayedClear Pass.moveDown Pass.slideOnce Pass.slideDown Pass.maySlide Pass.moveOf Pass.afterMove Pass.passOne Pass.passOver Venue.opened Venue.entering Venue.effectOfEntry Venue.effectOfCancel Venue.thePass Venue.restrictionReport Venue.effectOfDayEnd Venue.effectOf Sound.sound Refusals.refuseUnless Refusals.firstOf Refusals.refusalOfTerms Refusals.refusalOfCodes Refusals.refusalOfOwner Refusals.refusalOfPlace Refusals.refusalOfEntry Refusals.rests Refusals.refusalOfKind Refusals.refusal Run.stepUnless Run.step Run.run Account.setAt
 slid-prices-computed =
     record {
       days = record { dayPrices = refl; dayStamps = refl; dayTrades = refl; overDays = record { answered = refl; prices = refl }; stampsGoOn = refl; repricedTakes = refl };
@@ -88,15 +89,15 @@ slid-prices-computed =
     }
 
 pub codes-in-order : CodesInOrder
-unfolding Tests.pick Tests.every Prices.isStep Prices.legal Prices.isBid order-conditions.idsRise order-conditions.stampsDiffer Venue.opened Sound.sound Refusals.refuseUnless Refusals.firstOf Refusals.refusalOfTerms Refusals.refusalOfCodes Refusals.refusalOfPlace Refusals.refusalOfEntry Refusals.refusalOfKind Refusals.refusal Run.stepUnless Run.step Run.run
+unfolding Tests.pick Tests.every Prices.isStep Prices.legal Prices.isBid Pause.lastTime Pause.timesInOrder Pause.soundKept order-conditions.idsRise order-conditions.stampsDiffer Venue.opened Sound.sound Refusals.refuseUnless Refusals.firstOf Refusals.refusalOfTerms Refusals.refusalOfCodes Refusals.refusalOfPlace Refusals.refusalOfEntry Refusals.refusalOfKind Refusals.refusal Run.stepUnless Run.step Run.run
 codes-in-order = (refl, (refl, tt))
 
 pub fills-told : FillsTold
-unfolding Tests.pick Tests.every Prices.isStep Prices.legal Prices.isBid Prices.permitted Restriction.triggers Restriction.phaseAfterTape Restriction.phaseAfterDayEnd Restriction.restrictionOn Orders.find Orders.ifSame Orders.restingShares Orders.without Orders.insert Matching.reaches Matching.better Matching.betterOf Matching.bestFrom Matching.best Matching.counterparty Matching.execution Matching.afterTrade Matching.trading Matching.withdrawing Matching.sameOwner Matching.meeting Matching.matchingWith Matching.matchingUpTo Matching.matching order-conditions.idsRise order-conditions.stampsDiffer order-conditions.soundOrder Market.restricted Market.permittedNow Working.limitOf Working.followsBid Working.lifeOf Working.workingPrice Working.orderOf Working.remainder Working.afterRemainder Working.work Pass.displayedClear Pass.moveDown Pass.slideOnce Pass.slideDown Pass.maySlide Pass.moveOf Pass.afterMove Pass.passOne Pass.passOver Venue.opened Venue.entering Venue.effectOfEntry Venue.effectOfCancel Venue.thePass Venue.restrictionReport Venue.effectOfDayEnd Venue.effectOf Sound.sound Refusals.refuseUnless Refusals.firstOf Refusals.refusalOfTerms Refusals.refusalOfCodes Refusals.refusalOfOwner Refusals.refusalOfPlace Refusals.refusalOfEntry Refusals.rests Refusals.refusalOfKind Refusals.refusal Run.stepUnless Run.step Run.run Refusals.refusalOfAsked front.sharesReached front.allReached front.suffices front.leastBelow front.frontLength front.frontRead Fill.askedOrder Fill.fillUnless Fill.wouldFill
+unfolding Tests.pick Tests.every Prices.isStep Prices.legal Prices.isBid Prices.permitted Restriction.triggers Restriction.phaseAfterTape Restriction.phaseAfterDayEnd Restriction.restrictionOn Orders.find Orders.ifSame Orders.restingShares Orders.without Orders.insert Matching.reaches Matching.better Matching.betterOf Matching.bestFrom Matching.best Matching.counterparty Matching.execution Matching.afterTrade Matching.trading Matching.withdrawing Matching.sameOwner Matching.meeting Matching.matchingWith Matching.matchingUpTo Matching.matching Pause.lastTime Pause.timesInOrder Pause.soundKept order-conditions.idsRise order-conditions.stampsDiffer order-conditions.soundOrder Market.restricted Market.permittedNow Working.limitOf Working.followsBid Working.lifeOf Working.workingPrice Working.orderOf Working.remainder Working.afterRemainder Working.work Pass.displayedClear Pass.moveDown Pass.slideOnce Pass.slideDown Pass.maySlide Pass.moveOf Pass.afterMove Pass.passOne Pass.passOver Venue.opened Venue.entering Venue.effectOfEntry Venue.effectOfCancel Venue.thePass Venue.restrictionReport Venue.effectOfDayEnd Venue.effectOf Sound.sound Refusals.refuseUnless Refusals.firstOf Refusals.refusalOfTerms Refusals.refusalOfCodes Refusals.refusalOfOwner Refusals.refusalOfPlace Refusals.refusalOfEntry Refusals.rests Refusals.refusalOfKind Refusals.refusal Run.stepUnless Run.step Run.run Refusals.refusalOfAsked front.sharesReached front.allReached front.suffices front.leastBelow front.frontLength front.frontRead Fill.askedOrder Fill.fillUnless Fill.wouldFill
 fills-told = record { cents = refl; halfCents = refl; empty = refl; spent = refl; broken = refl }
 
 pub other-steps : OtherSteps
-unfolding Tests.pick Tests.every Prices.isStep Prices.atStep Prices.permittedOf Watch.watchOutcome order-conditions.idsRise order-conditions.stampsDiffer Venue.opened Venue.opening Sound.sound Refusals.refuseUnless Refusals.refusal Run.stepUnless Run.step
+unfolding Tests.pick Tests.every Prices.isStep Prices.atStep Prices.permittedOf Watch.watchOutcome Pause.lastTime Pause.timesInOrder Pause.soundKept order-conditions.idsRise order-conditions.stampsDiffer Venue.opened Venue.opening Sound.sound Refusals.refuseUnless Refusals.refusal Run.stepUnless Run.step
 other-steps =
     record {
       opening = (refl, (refl, (refl, (refl, (refl, (refl, (refl, tt)))))));

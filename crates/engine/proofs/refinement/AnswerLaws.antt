@@ -2,7 +2,7 @@
 use Prim.Native.Nat.{_≤_, _<_}
 use native.Mathlib.Omega.{arith}
 use Rattle.engine.specs.declared.Refusal.{Refusal}
-use Rattle.engine.specs.declared.Refusal.the-variants.{BufferTooShort, EventsSpent, PriceNotLegal, SharesOutOfRange, ShowOrLifeOutOfRange, IdNotNew, BookFull, NotResting, VenueBroken, NotStep, MarkOutOfRange, SlideOutOfRange, SlideOnWrongMark, OwnerOutOfRange}
+use Rattle.engine.specs.declared.Refusal.the-variants.{BufferTooShort, EventsSpent, PriceNotLegal, SharesOutOfRange, ShowOrLifeOutOfRange, IdNotNew, BookFull, NotResting, VenueBroken, NotStep, MarkOutOfRange, SlideOutOfRange, SlideOnWrongMark, OwnerOutOfRange, TimeBeforeLast, KeptPricesFull}
 use Rattle.engine.specs.rules.Answers.{refusalNumber}
 
 pub refusal-range : (r : Refusal) → (1 ≤ refusalNumber r) × (refusalNumber r < 128)
@@ -20,3 +20,5 @@ refusal-range MarkOutOfRange = (omega arith, omega arith)
 refusal-range SlideOutOfRange = (omega arith, omega arith)
 refusal-range SlideOnWrongMark = (omega arith, omega arith)
 refusal-range OwnerOutOfRange = (omega arith, omega arith)
+refusal-range TimeBeforeLast = (omega arith, omega arith)
+refusal-range KeptPricesFull = (omega arith, omega arith)

@@ -8,6 +8,7 @@ use lib.ListN.{length}
 use Rattle.numbers.specs.SevenBit.{Put}
 use Rattle.numbers.proofs.TestLaws.{all-map}
 use Rattle.prices.specs.Prices.{isBid}
+use Rattle.prices.specs.declared.TimedPrice.{TimedPrice}
 use Rattle.book.specs.declared.Order.{Order}
 use Rattle.book.specs.rules.Words.{resting}
 use Rattle.engine.specs.declared.Entry.{Entry}
@@ -17,7 +18,7 @@ use Rattle.engine.specs.rules.Market.{marketAfter}
 use Rattle.engine.specs.rules.Reports.{Report, accepted}
 use Rattle.engine.specs.rules.Records.{reportBytes, reportsBytes}
 use Rattle.engine.specs.rules.Working.{orderOf, work}
-use Rattle.engine.specs.rules.Venue.{Venue, entering, effectOfEntry, effectOf, lastIdAfter, venueAfter}
+use Rattle.engine.specs.rules.Venue.{Venue, entering, effectOfEntry, effectOf, lastIdAfter, keptAfter, venueAfter}
 use Rattle.engine.specs.steps.Memory.{Ordered, Becomes, Room, Does, withOrders, finished, effectIn, MayAccept, Accepts}
 use Rattle.engine.specs.rules.Layout.{venueOf}
 use Rattle.engine.specs.steps.Steps.{entryBy, HasPlace, EntryHasPlace, MayEnter}
@@ -49,6 +50,10 @@ by-effect e (suc k) m v = refl
 by-last : (e : Entry) (k : ℕ) (v : Venue) → lastIdAfter v (entryBy e k) ≡ e.id
 by-last e zero v = refl
 by-last e (suc k) v = refl
+
+by-kept : (e : Entry) (k : ℕ) (kept : List TimedPrice) → keptAfter (entryBy e k) kept ≡ kept
+by-kept e zero kept = refl
+by-kept e (suc k) kept = refl
 
 -- one with an owner above 0 is of kind 6
 pub by-owned : (e : Entry) (k : ℕ) → 1 ≤ k → entryBy e k ≡ ownedEntry e k
@@ -84,7 +89,7 @@ module _ (w : List ℕ) (e : Entry) (k : ℕ) (o : Order) (q : o ≡ orderOf (ve
 
   entry-after : finished (o .id) (o .stamp) (withOrders (work o (resting w) .orders) (venueOf w)) ≡ venueAfter (venueOf w) (entryBy e k) (effectIn w (entryBy e k))
   unfolding entering effectOfEntry orderOf venueOf
-  entry-after = rw (by-owner, by-market e k (venueOf w .market), by-last e k (venueOf w), q)
+  entry-after = rw (by-owner, by-market e k (venueOf w .market), by-last e k (venueOf w), by-kept e k (venueOf w .kept), q)
 
   -- and is accepted
   pub entry-done : {w₁ w₂ b b₁ b₂ : List ℕ} {at end : ℕ} → Ordered w → Room b 0 (effectIn w (entryBy e k) .reports) → Put (reportBytes (accepted (o .id) (o .stamp) (o .price))) 0 b at b₁ → Does w w₁ b₁ b₂ at (work o (resting w) .orders) (work o (resting w) .reports) end → Becomes w₁ w₂ (finished (o .id) (o .stamp) (venueOf w₁)) → Accepts w w₂ b b₂ (entryBy e k) end

@@ -1,5 +1,5 @@
 -- What writing header words and taking orders out does to the venue of the words. Assumes nothing.
-use Prim.Native.Nat.{ℕ, _+_, _<_}
+use Prim.Native.Nat.{ℕ, _+_, _≤_, _<_}
 use native.Mathlib.Omega.{arith}
 use mathlib.Core.Path.{_≡_, refl, sym, ap, _∙_, subst}
 use mathlib.Core.List.{List}
@@ -103,7 +103,7 @@ unfolding venueOf
 word-set {w} {w′} {k} {x} l o h =
     record {
       ordered = record { book = h .book; rises = rw (h .rests) (o .rises) };
-      venue = venue-as w′ (withWord k x (venueOf w)) (at 1) (at 2) (at 3) (h .rests) (at 4) (at 5) (at 6) (word-other h 7 (λ e. omega arith)) (kept-as w w′ (word-other h 8 (λ e. omega arith)) (λ j l. word-other h j (λ e. omega arith)));
+      venue = venue-as w′ (withWord k x (venueOf w)) (at 1) (at 2) (at 3) (h .rests) (at 4) (at 5) (at 6) (word-other h 7 (λ e. omega arith)) (kept-as w w′ (word-other h 8 (λ e. omega arith)) (λ j a. word-other h j (λ e. omega arith)));
       same =
           record {
             size = ap length (h .is) ∙ length-set w k x;

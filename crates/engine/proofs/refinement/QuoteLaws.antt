@@ -19,7 +19,7 @@ use Rattle.engine.specs.rules.Pass.{Effect, passOver}
 use Rattle.engine.specs.rules.Venue.{Venue, thePass, restrictionReport, effectOfTape, effectOf}
 use Rattle.engine.specs.rules.Sound.{mostEvents, sound}
 use Rattle.engine.specs.rules.Records.{reportsBytes}
-use Rattle.engine.specs.steps.Memory.{Ordered, Becomes, Room, DoesEffect, inMarket, withOrders, finished, effectIn, MayAccept, Accepts}
+use Rattle.engine.specs.steps.Memory.{Ordered, Becomes, Room, DoesEffect, inMarket, withOrders, finished, effectIn, MayAccept, AcceptsFrom, Accepts}
 use Rattle.engine.specs.rules.Layout.{venueOf}
 use Rattle.engine.specs.steps.Steps.{idsOf, passIn, PassesAndFinishes}
 use Rattle.engine.proofs.refinement.MemoryLaws.{becomes-then, becomes-as, does-becomes}
@@ -142,26 +142,26 @@ module _ (w : List ℕ) (x : ℕ) (k m : Market) (ek : k ≡ venueOf w .market) 
       let v = venueOf w .market in
       subst SoundMarket (sym after-tape) (record { step = g .step; phase = tape-phase (v .close) (v .phase) x (g .phase); close = g .close; bid = g .bid })
 
-  module _ (b : List ℕ) (r : Room b 0 (effectIn w (tape x) .reports)) where
-    both : Room b 0 (restrictionReport k m ++ thePass m (venueOf w) .reports)
-    both = room-as b 0 tape-reports r
+  module _ (b : List ℕ) (at : ℕ) (r : Room b at (effectIn w (tape x) .reports)) where
+    both : Room b at (restrictionReport k m ++ thePass m (venueOf w) .reports)
+    both = room-as b at tape-reports r
 
-    pub tape-first : Room b 0 (restrictionReport k m)
-    tape-first = room-first b 0 (restrictionReport k m) (thePass m (venueOf w) .reports) both
+    pub tape-first : Room b at (restrictionReport k m)
+    tape-first = room-first b at (restrictionReport k m) (thePass m (venueOf w) .reports) both
 
-    module _ {b₁ w₁ : List ℕ} {at : ℕ} (put : Put (reportsBytes (restrictionReport k m)) 0 b at b₁) (f : Becomes w w₁ (inMarket m (venueOf w))) where
-      pub tape-may : MayAccept w → MayAccept w₁ × Room b₁ at (passIn w₁ .reports)
+    module _ {b₁ w₁ : List ℕ} {m₁ : ℕ} (put : Put (reportsBytes (restrictionReport k m)) at b m₁ b₁) (f : Becomes w w₁ (inMarket m (venueOf w))) where
+      pub tape-may : MayAccept w → MayAccept w₁ × Room b₁ m₁ (passIn w₁ .reports)
       tape-may a =
-          (moved-accepts f a (ap (λ (y : Market). y .step) after-tape) (tape-sound a), room-as b₁ at (ap (λ (y : Effect). y .reports) (sym (new-pass f))) (room-then (restrictionReport k m) (thePass m (venueOf w) .reports) both put))
+          (moved-accepts f a (ap (λ (y : Market). y .step) after-tape) (tape-sound a), room-as b₁ m₁ (ap (λ (y : Effect). y .reports) (sym (new-pass f))) (room-then (restrictionReport k m) (thePass m (venueOf w) .reports) both put))
 
-      tape-wrote : {b′ : List ℕ} {end : ℕ} → Put (reportsBytes (passIn w₁ .reports)) at b₁ end b′ → Put (reportsBytes (effectIn w (tape x) .reports)) 0 b end b′
+      tape-wrote : {b′ : List ℕ} {end : ℕ} → Put (reportsBytes (passIn w₁ .reports)) m₁ b₁ end b′ → Put (reportsBytes (effectIn w (tape x) .reports)) at b end b′
       tape-wrote p =
           let xs = restrictionReport k m in
           let ys = thePass m (venueOf w) .reports in
-          let h : 0 + length (reportsBytes xs ++ reportsBytes ys) ≤ length b = omega (arith, both, ap length (reports-append xs ys)) in
+          let h : at + length (reportsBytes xs ++ reportsBytes ys) ≤ length b = omega (arith, both, ap length (reports-append xs ys)) in
           put-as (sym (ap reportsBytes tape-reports ∙ reports-append xs ys)) (put-then (reportsBytes ys) h put (put-as (ap (λ (y : Effect). reportsBytes (y .reports)) (new-pass f)) p))
 
-      pub tape-done : {w′ b′ : List ℕ} {end : ℕ} → PassesAndFinishes w₁ w′ b₁ b′ at end → Accepts w w′ b b′ (tape x) end
+      pub tape-done : {w′ b′ : List ℕ} {end : ℕ} → PassesAndFinishes w₁ w′ b₁ b′ m₁ end → AcceptsFrom w w′ b b′ (tape x) at end
       tape-done p =
           let q = news-end f p in
           record {

@@ -222,7 +222,7 @@ market-agrees (bid b) m f h = record { close = h .close; phase = h .phase }
 market-agrees (tape p) m f h = record { close = h .close; phase = rw (h .close, h .phase) (tape-by-falls f p) }
 market-agrees (dayEnd c) m f h = record { close = refl; phase = rw (h .phase) (day-end-by-falls f c) }
 market-agrees (ownedEntry e k) m f h = h
-market-agrees (timedTape x) m f h = market-agrees (tape (x .price)) m f h
+market-agrees (timedTape x) m f h = record { close = h .close; phase = rw (h .close, h .phase) (tape-by-falls f (x .price)) }
 
 -- the reports that are due
 

@@ -17,7 +17,9 @@ market-after-tape-requires c κs = search needs
 report-restriction-requires : tie.Need-report-restriction-requires
 report-restriction-requires c κs =
     let s = c .before .before .before .before .before .before in
-    tape-first (s .args .w .now) (s .args .price) (c .before .before .market .result) (c .before .market-after-tape .result) (c .before .before .market .ensures) (c .before .market-after-tape .ensures) (s .args .reports .now) (s .pre .1)
+    let before = c .before .before .market in
+    let after = c .before .market-after-tape in
+    tape-first (s .args .w .now) (s .args .price) (before .result) (after .result) (before .ensures) (after .ensures) (s .args .reports .now) (s .args .at) (s .pre .1)
 
 set-market-requires : tie.Need-set-market-requires
 set-market-requires c κs =
@@ -28,7 +30,9 @@ set-market-requires c κs =
 pass-and-finish-requires : tie.Need-pass-and-finish-requires
 pass-and-finish-requires c κs =
     let s = c .before .before .before .before .before .before .before .before .before .before .before .before .before .before .before in
-    tape-may (s .args .w .now) (s .args .price) (c .before .before .before .before .before .before .before .before .before .before .before .market .result) (c .before .before .before .before .before .before .before .before .before .before .market-after-tape .result) (c .before .before .before .before .before .before .before .before .before .before .before .market .ensures) (c .before .before .before .before .before .before .before .before .before .before .market-after-tape .ensures) (s .args .reports .now) (s .pre .1) (c .before .before .before .before .before .before .before .before .report-restriction .ensures) (c .before .before .before .before .set-market .ensures) (s .pre .0)
+    let before = c .before .before .before .before .before .before .before .before .before .before .before .market in
+    let after = c .before .before .before .before .before .before .before .before .before .before .market-after-tape in
+    tape-may (s .args .w .now) (s .args .price) (before .result) (after .result) (before .ensures) (after .ensures) (s .args .reports .now) (s .args .at) (s .pre .1) (c .before .before .before .before .before .before .before .before .report-restriction .ensures) (c .before .before .before .before .set-market .ensures) (s .pre .0)
 
 same-length : tie.Need-same-length
 same-length c = search needs
@@ -39,7 +43,9 @@ same-length-2 c = search needs
 returns : tie.Need-returns
 returns c =
     let s = c .before .before .before .before .before .before .before .before .before .before .before .before .before .before .before .before .before .before .before .before in
-    tape-done (s .args .w .now) (s .args .price) (c .before .before .before .before .before .before .before .before .before .before .before .before .before .before .before .before .market .result) (c .before .before .before .before .before .before .before .before .before .before .before .before .before .before .before .market-after-tape .result) (c .before .before .before .before .before .before .before .before .before .before .before .before .before .before .before .before .market .ensures) (c .before .before .before .before .before .before .before .before .before .before .before .before .before .before .before .market-after-tape .ensures) (s .args .reports .now) (s .pre .1) (c .before .before .before .before .before .before .before .before .before .before .before .before .before .report-restriction .ensures) (c .before .before .before .before .before .before .before .before .before .set-market .ensures) (c .before .before .before .before .pass-and-finish .ensures)
+    let before = c .before .before .before .before .before .before .before .before .before .before .before .before .before .before .before .before .market in
+    let after = c .before .before .before .before .before .before .before .before .before .before .before .before .before .before .before .market-after-tape in
+    tape-done (s .args .w .now) (s .args .price) (before .result) (after .result) (before .ensures) (after .ensures) (s .args .reports .now) (s .args .at) (s .pre .1) (c .before .before .before .before .before .before .before .before .before .before .before .before .before .report-restriction .ensures) (c .before .before .before .before .before .before .before .before .before .set-market .ensures) (c .before .before .before .before .pass-and-finish .ensures)
 
 pub new-tape-spec : {M : Type 1} → statement M
 new-tape-spec = tie.close (tie.spec market-requires market-after-tape-requires report-restriction-requires set-market-requires pass-and-finish-requires same-length same-length-2 returns)

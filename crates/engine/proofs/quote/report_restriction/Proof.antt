@@ -10,13 +10,13 @@ use Rattle.engine.proofs.quote.report_restriction.Statement.{statement}
 use Rattle.engine.proofs.quote.report_restriction.Tie as tie
 
 returns : tie.Need-returns
-returns c = let a = c .before .before .before .before .args in put-as (sym (ap reportsBytes (restriction-same (a .before) (a .after) (c .if1 .taken)) ∙ reports-none)) (put-none (a .reports .now) 0)
+returns c = let a = c .before .before .before .before .args in put-as (sym (ap reportsBytes (restriction-same (a .before) (a .after) (c .if1 .taken)) ∙ reports-none)) (put-none (a .reports .now) (a .at))
 
 write-restriction-starts-requires : tie.Need-write-restriction-starts-requires
 write-restriction-starts-requires c κs =
     let s = c .before .before .before .before .before in
     let a = s .args in
-    room-one (a .reports .now) 0 restrictionStarts (room-as (a .reports .now) 0 (restriction-new (a .before) (a .after) (c .before .if1 .left)) (s .pre))
+    room-one (a .reports .now) (a .at) restrictionStarts (room-as (a .reports .now) (a .at) (restriction-new (a .before) (a .after) (c .before .if1 .left)) (s .pre))
 
 same-length : tie.Need-same-length
 same-length c = search needs
