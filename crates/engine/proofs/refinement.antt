@@ -9,6 +9,7 @@ pub mod EnterLaws
 pub mod CancelLaws
 pub mod LeaveLaws
 pub mod QuoteLaws
+pub mod TimedLaws
 pub mod AnswerLaws
 pub mod ApplyLaws
 pub mod OpeningLaws

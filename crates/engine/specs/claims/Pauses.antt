@@ -96,9 +96,9 @@ AllLooked day [] = Unit {0}
 AllLooked day (x ∷ xs) = Looked day (x .event) (x .answer) × AllLooked (dayAnswered day (x .event) (x .answer)) xs
 
 -- of a list, and of the prices that the venue keeps after it: those of the day within 300 seconds of the last one
-pub record ByPlainLook (xs : List Answered) (kept : List TimedPrice) : Type 0 where
+pub record ByPlainLook (xs : List Answered) (prices : List TimedPrice) : Type 0 where
   pub looked : AllLooked [] xs
-  pub kept : kept ≡ within (lastTime (dayFrom [] xs)) (dayFrom [] xs)
+  pub kept : prices ≡ within (lastTime (dayFrom [] xs)) (dayFrom [] xs)
 
 -- for every step and close that open takes and every list of events, each lent a report buffer of any length
 abbrev pub PausesByPlainLook : Type 0

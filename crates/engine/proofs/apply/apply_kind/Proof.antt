@@ -41,6 +41,12 @@ enum-known-event-6 c = search needs
 apply-owned-entry-requires : tie.Need-apply-owned-entry-requires
 apply-owned-entry-requires c κs = search needs
 
+enum-known-event-7 : tie.Need-enum-known-event-7
+enum-known-event-7 c = search needs
+
+apply-timed-tape-requires : tie.Need-apply-timed-tape-requires
+apply-timed-tape-requires c κs = search needs
+
 same-length : tie.Need-same-length
 same-length c = search needs
 
@@ -95,6 +101,15 @@ same-length-12 c = search needs
 returns-6 : tie.Need-returns-6
 returns-6 c = applied-as (sym (c .before .before .before .before .before .before .before .before .event6 .given .1)) (c .before .before .before .before .apply-owned-entry .ensures)
 
+same-length-13 : tie.Need-same-length-13
+same-length-13 c = search needs
+
+same-length-14 : tie.Need-same-length-14
+same-length-14 c = search needs
+
+returns-7 : tie.Need-returns-7
+returns-7 c = applied-as (sym (c .before .before .before .before .before .before .before .before .event7 .given .1)) (c .before .before .before .before .apply-timed-tape .ensures)
+
 pub apply-kind-spec : {M : Type 1} → statement M
 apply-kind-spec =
     tie.close
@@ -111,6 +126,8 @@ apply-kind-spec =
     apply-day-end-requires
     enum-known-event-6
     apply-owned-entry-requires
+    enum-known-event-7
+    apply-timed-tape-requires
     same-length
     same-length-2
     returns
@@ -128,4 +145,7 @@ apply-kind-spec =
     returns-5
     same-length-11
     same-length-12
-    returns-6)
+    returns-6
+    same-length-13
+    same-length-14
+    returns-7)
