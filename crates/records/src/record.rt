@@ -10,12 +10,13 @@ use numbers::NumberRead;
 use numbers::NumberWrite;
 use numbers::read;
 use numbers::write;
+use prices::TimedPrice;
 ghost use mathlib.Core.Path.{_≡_};
 ghost use mathlib.Core.List.{[], _∷_};
 ghost use Prim.Native.Nat.{_≤_, _<_};
 ghost use lib.ListN.{length};
 ghost use Rattle.numbers.specs.SevenBit.{bytesOfAll, Written, outcomeOfWrite};
-ghost use Rattle.engine.specs.declared.Event.the-variants.{Entry as entry, OwnedEntry as ownedEntry};
+ghost use Rattle.engine.specs.declared.Event.the-variants.{Entry as entry, OwnedEntry as ownedEntry, TimedTape as timedTape};
 ghost use Rattle.engine.specs.rules.Records.{recordBytes, fieldsAt, byCount, recordFields, entryFrom, eventOf, readAs, recordAt};
 ghost use Rattle.records.specs.RecordAnswers.{eventFrom, readRefusalNumber, outcomeOfField, outcomeOfFields, outcomeOfRecordRead, outcomeOfRecordWrite};
 
@@ -135,6 +136,23 @@ fn read_owned_entry(bytes: &[u8], at: usize) -> RecordRead
     }
 }
 
+// The timed tape price whose fields stand from an offset on.
+fn read_timed_tape(bytes: &[u8], at: usize) -> RecordRead
+    ensures { λ r. ⌜ outcomeOfRecordRead r ≡ eventFrom 7 (fieldsAt 2 (now (bytes .entry)) at) ⌝ }
+{
+    let mut x: [u32; 2] = [0; 2];
+    match read_fields(bytes, at, &mut x) {
+        FieldsRead::Refused(refusal) => RecordRead::Refused(refusal),
+        FieldsRead::End(end) => RecordRead::Record {
+            event: Event::TimedTape(TimedPrice {
+                time: x[0],
+                price: x[1],
+            }),
+            end,
+        },
+    }
+}
+
 // The event of a kind: the kind is judged, then its fields are read.
 fn read_event(bytes: &[u8], at: usize, kind: u64) -> RecordRead
     ensures { λ r. ⌜ outcomeOfRecordRead r ≡ readAs eventOf (byCount kind (λ n. fieldsAt n (now (bytes .entry)) at) (recordFields kind)) ⌝ }
@@ -144,6 +162,9 @@ fn read_event(bytes: &[u8], at: usize, kind: u64) -> RecordRead
     }
     if kind == 6 {
         return read_owned_entry(bytes, at);
+    }
+    if kind == 7 {
+        return read_timed_tape(bytes, at);
     }
     if kind < 2 {
         return RecordRead::Refused(ReadRefusal::UnknownKind);
@@ -218,6 +239,14 @@ fn write_single(bytes: &mut [u8], at: usize, kind: u64, field: u32) -> RecordWri
     record_answer(write::write_numbers(bytes, at, &numbers))
 }
 
+// Writes the record of a timed tape price.
+fn write_timed_tape(bytes: &mut [u8], at: usize, x: TimedPrice) -> RecordWrite
+    ensures { λ r. ⌜ Written (recordBytes (timedTape x)) at (now (bytes .entry)) (outcomeOfRecordWrite r) (now (bytes .exit)) ⌝ }
+{
+    let numbers = [7, x.time as u64, x.price as u64];
+    record_answer(write::write_numbers(bytes, at, &numbers))
+}
+
 // Writes the record of an event at an offset, or nothing where it doesn't fit.
 pub fn write_record(bytes: &mut [u8], at: usize, event: Event) -> RecordWrite
     ensures { λ r. ⌜ Written (recordBytes event) at (now (bytes .entry)) (outcomeOfRecordWrite r) (now (bytes .exit)) ⌝ }
@@ -229,6 +258,7 @@ pub fn write_record(bytes: &mut [u8], at: usize, event: Event) -> RecordWrite
         Event::Tape(price) => write_single(bytes, at, 4, price),
         Event::DayEnd(close) => write_single(bytes, at, 5, close),
         Event::OwnedEntry(e, owner) => write_owned_entry(bytes, at, e, owner),
+        Event::TimedTape(x) => write_timed_tape(bytes, at, x),
     }
 }
 

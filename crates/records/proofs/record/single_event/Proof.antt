@@ -23,7 +23,7 @@ unfolding eventOf pick
 returns-4 c =
     let s = c .before .before .before in
     let k = s .args .kind in
-    rw (ne-eqb k 1 (λ e. omega (arith, s .pre .0)), ne-eqb k 6 (λ e. omega (arith, s .pre .1)), ne-eqb k 2 (c .before .before .if1 .left), ne-eqb k 3 (c .before .if2 .left), ne-eqb k 4 (c .if3 .left))
+    rw (ne-eqb k 1 (λ e. omega (arith, s .pre .0)), ne-eqb k 6 (λ e. omega (arith, s .pre .1)), ne-eqb k 7 (λ e. omega (arith, s .pre .1)), ne-eqb k 2 (c .before .before .if1 .left), ne-eqb k 3 (c .before .if2 .left), ne-eqb k 4 (c .if3 .left))
 
 pub single-event-spec : {M : Type 1} → statement M
 single-event-spec = tie.close (tie.spec returns returns-2 returns-3 returns-4)

@@ -40,6 +40,12 @@ enum-known-event-6 c = search needs
 write-owned-entry-requires : tie.Need-write-owned-entry-requires
 write-owned-entry-requires c κs = search needs
 
+enum-known-event-7 : tie.Need-enum-known-event-7
+enum-known-event-7 c = search needs
+
+write-timed-tape-requires : tie.Need-write-timed-tape-requires
+write-timed-tape-requires c κs = search needs
+
 same-length : tie.Need-same-length
 same-length c = search needs
 
@@ -82,6 +88,13 @@ returns-6 : tie.Need-returns-6
 unfolding recordBytes
 returns-6 c = rw (c .before .before .before .before .before .event6 .given .1) (c .before .before .write-owned-entry .ensures)
 
+same-length-7 : tie.Need-same-length-7
+same-length-7 c = search needs
+
+returns-7 : tie.Need-returns-7
+unfolding recordBytes
+returns-7 c = rw (c .before .before .before .before .before .event7 .given .1) (c .before .before .write-timed-tape .ensures)
+
 pub write-record-spec : {M : Type 1} → statement M
 write-record-spec =
     tie.close
@@ -98,6 +111,8 @@ write-record-spec =
     write-single-requires-4
     enum-known-event-6
     write-owned-entry-requires
+    enum-known-event-7
+    write-timed-tape-requires
     same-length
     returns
     same-length-2
@@ -109,4 +124,6 @@ write-record-spec =
     same-length-5
     returns-5
     same-length-6
-    returns-6)
+    returns-6
+    same-length-7
+    returns-7)
