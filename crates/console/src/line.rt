@@ -71,6 +71,7 @@ fn fields(kind: u64) -> usize
     match kind {
         1 | 3 | 4 => 3,
         2 => 4,
+        7 => 2,
         0 | 6 => 1,
         _ => 0,
     }
