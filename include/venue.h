@@ -16,10 +16,10 @@ extern "C" {
 
 /* The words of a venue. A longer run is a venue with further words behind it, which keep their content. Between the calls the words are the
    host's to copy and to store, and nobody's to change. */
-#define VENUE_WORDS 3856
+#define VENUE_WORDS 4880
 
 /* The number of the layout of these words. venue_open writes it, and words that were stored under another layout are refused with 16. */
-#define VENUE_LAYOUT 4
+#define VENUE_LAYOUT 5
 
 /* The steps that venue_open, venue_permitted_price and venue_watch take, in ten-thousandths of a dollar. Legal prices are the whole numbers from 1 to 100,000,000, from 10,000 up
    the multiples of the step alone. A bid is 0 (no bid) or a legal price up to 100,000,000 less the step. */
@@ -58,7 +58,7 @@ uint32_t venue_open(uint32_t *words, size_t words_length, uint32_t step, uint32_
    in this order:
     9  the record breaks off
    10  a number of the record is bad: a tenth byte above 1, or a last group 0 after another
-   11  the kind isn't 1 to 6
+   11  the kind isn't 1 to 7
    12  a field is above 4,294,967,295
    16  the words aren't a venue. Those that venue_open made one stay one through every call of venue_apply and
        venue_play, whatever it answers
@@ -74,7 +74,9 @@ uint32_t venue_open(uint32_t *words, size_t words_length, uint32_t step, uint32_
     6  the id isn't above that of the last accepted entry
     7  256 orders rest, and the entry needs a place: its life is 0, and it is no market order, unless one of a short while the restriction is on and a bid
        is present. Every other entry is taken into a full book too: it trades, and what is left of it is cancelled
-    8  no order rests under the id to cancel */
+    8  no order rests under the id to cancel
+   22  the time of a timed tape price is before the last one of the day
+   23  the timed tape price would be the 513th that is kept, those not counted that its time leaves behind */
 uint32_t venue_apply(uint32_t *words, size_t words_length, const uint8_t *record, size_t record_length, uint8_t *reports,
                      size_t reports_length);
 
@@ -91,7 +93,7 @@ struct venue_progress {
 #define VENUE_REPORTS_FULL 2 /* fewer than VENUE_REPORT_BYTES bytes are left for reports */
 
 /* Plays the event records of a run one after another, from an offset on, each as venue_apply does. The bytes of the events stand one after another
-   at the front of the report buffer: of an accepted event its reports, which may be none; of a refused one two bytes, 0 and its refusal, 2 to 8 or 18 to 21. No
+   at the front of the report buffer: of an accepted event its reports, which may be none; of a refused one two bytes, 0 and its refusal, 2 to 8 or 18 to 23. No
    report begins with a byte 0. ends[i] is the offset behind the bytes of event i of the call, counted from 0; they begin at ends[i - 1], those of
    event 0 at 0. The answer is refusal * 65,536, or one of the three stops above, which are no refusals:
    16  the words aren't a venue. This is checked once, before all else; nothing is changed, progress neither
