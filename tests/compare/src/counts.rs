@@ -25,7 +25,7 @@ const OF_EVENTS: [usize; 17] = [1, 2, 3, 4, 5, 6, 7, 8, 9, 10, 11, 12, 16, 18, 1
 #[derive(Default)]
 pub struct Answers {
     accepted: u64,
-    refused: [u64; 22],
+    refused: [u64; 24],
 }
 
 impl Answers {

@@ -53,6 +53,7 @@ pub fn made_up(rng: &mut Rng, market: &Market) -> Venue {
         orders: ids
             .map(|(id, stamp)| made_up_order(rng, market, id, stamp))
             .collect(),
+        kept: Vec::new(),
     }
 }
 

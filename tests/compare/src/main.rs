@@ -1,4 +1,4 @@
-//! A second implementation of the venue of document 01 and of No. 1 to No. 9 of
+//! A second implementation of the venue of document 01 and of No. 1 to No. 10 of
 //! document 02, and its comparison with the proved engine. See README.md.
 
 mod account;
@@ -60,6 +60,9 @@ mod observe;
 mod odd;
 #[cfg(any(test, feature = "engine"))]
 mod output;
+#[cfg(test)]
+mod pause_days;
+mod pauses;
 mod phase_table;
 mod price_rules;
 mod program;

@@ -7,8 +7,9 @@ use crate::ladder::Ladder;
 use crate::made_up::{made_up, put_on_one_side, sink_shorts, spoil_record};
 use crate::meetings::meet_own;
 use crate::model::{
-    read_record, write_number, write_record, Entry, Event, RecordCheck, Venue, CENT, DOLLAR,
-    HALF_CENT, LEAST_BUFFER, LONGEST_NUMBER, LOWEST, MOST_EVENTS, MOST_SHARES, PLACES, SHORT,
+    read_record, write_number, write_record, Entry, Event, RecordCheck, TimedPrice, Venue, CENT,
+    DOLLAR, HALF_CENT, LEAST_BUFFER, LONGEST_NUMBER, LOWEST, MOST_EVENTS, MOST_SHARES, PLACES,
+    SHORT,
 };
 use crate::odd::{near_miss, odd_code, odd_number, odd_owner};
 use crate::rng::Rng;
@@ -275,6 +276,10 @@ fn miss(rng: &mut Rng, event: Event) -> Event {
         Event::DayEnd { price } => Event::DayEnd {
             price: near_miss(rng, price),
         },
+        Event::Timed(TimedPrice { time, price }) => Event::Timed(TimedPrice {
+            time,
+            price: near_miss(rng, price),
+        }),
     }
 }
 

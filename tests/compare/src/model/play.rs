@@ -239,10 +239,11 @@ mod tests {
 
     #[test]
     fn stops_at_a_record_that_cannot_be_read() {
-        let cases: [(&[u8], Refusal); 4] = [
+        let cases: [(&[u8], Refusal); 5] = [
             (&[3, 0xF8, 0xC6], Refusal::MissingByte),
+            (&[7, 1], Refusal::MissingByte),
             (&[3, 0x80, 0], Refusal::BadNumber),
-            (&[7, 1], Refusal::Kind),
+            (&[8, 1], Refusal::Kind),
             (&[2, 0x80, 0x80, 0x80, 0x80, 0x10], Refusal::LargeField),
         ];
         for (record, refusal) in cases {
