@@ -16,6 +16,7 @@ use crate::model::{
     Order, OrderRecord, Question, RecordCheck, Refusal, Report, ReportWriter, Side, TimedPrice,
     Venue, Watch, BUY, CENT, LEAST_BUFFER, OPT_OUT, PLACES, SHORT,
 };
+use crate::pause_rule;
 use crate::pauses::{behind_pause, Pauses};
 use crate::phase_table::{self, watched};
 use crate::price_rules;
@@ -57,6 +58,7 @@ impl Examiner for Checked {
         self.pauses = Pauses::start(from_open, self.venue.step);
         price_rules::check_record(&self.venue)?;
         by_owners::check_record(&self.venue)?;
+        pause_rule::check_record(&self.venue)?;
         let opened = Venue::open(self.venue.step, self.venue.close);
         ensure(!from_open || opened.as_ref() == Ok(&self.venue), "open")
     }
@@ -188,8 +190,8 @@ impl Checked {
 
     /// An event on a sound record does what document 01 says without market orders
     /// and with its own step, by the same prices or by doubled ones; keeps to the
-    /// table of phases; does what it does without owners; and in a full book does what it
-    /// does where there is room.
+    /// table of phases and to the rule of timed prices; does what it does without owners; and
+    /// in a full book does what it does where there is room.
     fn check_otherwise(
         &self,
         event: &Event,
@@ -203,6 +205,7 @@ impl Checked {
         counts.full_books.check(with_room);
         by_limits::check(before, event, buffer, answer, after)?;
         phase_table::check(before, event, buffer, answer, after)?;
+        pause_rule::check(before, event, buffer, answer, after)?;
         let as_before = matching::check(before, event, answer, after)?;
         let without_owners = by_owners::check(before, event, buffer, answer, after)?;
         counts.withdrawals.check(as_before, without_owners);

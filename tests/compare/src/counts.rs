@@ -19,7 +19,9 @@ use std::fmt;
 const MOST_PRINTED: u64 = 10;
 
 /// What an event may be refused with, its record included.
-const OF_EVENTS: [usize; 17] = [1, 2, 3, 4, 5, 6, 7, 8, 9, 10, 11, 12, 16, 18, 19, 20, 21];
+const OF_EVENTS: [usize; 19] = [
+    1, 2, 3, 4, 5, 6, 7, 8, 9, 10, 11, 12, 16, 18, 19, 20, 21, 22, 23,
+];
 
 /// How often a call was accepted, and how often refused with which number.
 #[derive(Default)]

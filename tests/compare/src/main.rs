@@ -62,6 +62,7 @@ mod odd;
 mod output;
 #[cfg(test)]
 mod pause_days;
+mod pause_rule;
 mod pauses;
 mod phase_table;
 mod price_rules;
@@ -85,6 +86,7 @@ mod slid_prices;
 #[cfg(test)]
 mod slides_gone_wrong;
 mod streams;
+mod timed_events;
 mod withdrawals;
 
 use model::{CENT, HALF_CENT};

@@ -18,9 +18,7 @@ pub use form::{
     byte_count, read_number, read_record, write_number, write_record, Entry, Event, Report,
     ReportWriter, LONGEST_NUMBER,
 };
-pub use pauses::TimedPrice;
-#[cfg(feature = "engine")]
-pub use pauses::MOST_KEPT;
+pub use pauses::{TimedPrice, MOST_KEPT};
 pub use play::Progress;
 #[cfg(feature = "engine")]
 pub use play::Stop;
