@@ -8,6 +8,7 @@ use crate::market_orders::MarketOrders;
 #[cfg(feature = "engine")]
 use crate::model::{is_step, Stop};
 use crate::model::{Event, Refusal, Report, Venue, Watch};
+use crate::pause_counts::Pausing;
 use crate::refused_entries::RefusedEntries;
 use crate::rng::Rng;
 use crate::slid_price_counts::Slides;
@@ -68,6 +69,7 @@ pub struct Counts {
     pub withdrawals: Withdrawals,
     pub full_books: FullBooks,
     slides: Slides,
+    pausing: Pausing,
     #[cfg(feature = "engine")]
     host: HostCounts,
 }
@@ -112,6 +114,7 @@ impl Counts {
         self.withdrawals.start(&session.start, from_open);
         self.full_books.start(from_open);
         self.slides.start(from_open);
+        self.pausing.start(&session.start, from_open);
     }
 
     /// A record that can't be read.
@@ -126,6 +129,7 @@ impl Counts {
         self.half_cents.refuse(venue.step, event, refusal);
         self.refused_entries.refuse(venue, event, refusal);
         self.full_books.refuse(venue, event, refusal);
+        self.pausing.take(venue, event, Err(refusal));
     }
 
     /// An accepted event, with the venue before it, the byte count of its
@@ -138,6 +142,7 @@ impl Counts {
         self.withdrawals.accept(before, event, reports);
         self.full_books.accept(before, event, reports);
         self.slides.accept(before, event, reports);
+        self.pausing.take(before, event, Ok(reports));
         self.most_bytes = self.most_bytes.max(bytes);
         for report in reports {
             match report {
@@ -315,6 +320,7 @@ impl fmt::Display for Counts {
         writeln!(f, "{}", self.withdrawals)?;
         writeln!(f, "{}", self.full_books)?;
         writeln!(f, "{}", self.slides)?;
+        writeln!(f, "{}", self.pausing)?;
         #[cfg(feature = "engine")]
         if self.host.copies.accepted > 0 {
             write!(f, "{}", self.host)?;

@@ -43,9 +43,10 @@ pub fn made_up(rng: &mut Rng, market: &Market) -> Venue {
     shuffle(rng, &mut stamps);
     let bid = market.bid(rng, 0);
     let ids = rising(rng, count, last_id).into_iter().zip(stamps);
+    let close = market.close(rng);
     Venue {
         step: market.ladder.step,
-        close: market.close(rng),
+        close,
         phase: rng.pick(&[0, 1, 2, 2, 2]),
         bid,
         last_id,
@@ -54,7 +55,7 @@ pub fn made_up(rng: &mut Rng, market: &Market) -> Venue {
         orders: ids
             .map(|(id, stamp)| made_up_order(rng, market, id, stamp))
             .collect(),
-        kept: made_up_kept(rng, market),
+        kept: made_up_kept(rng, market, close),
     }
 }
 

@@ -60,6 +60,7 @@ mod observe;
 mod odd;
 #[cfg(any(test, feature = "engine"))]
 mod output;
+mod pause_counts;
 #[cfg(test)]
 mod pause_days;
 mod pause_rule;

@@ -549,7 +549,21 @@ impl Session {
         })
     }
 
+    /// Where the kept prices are filled up, mostly one that does so, and no other that is timed.
     fn event(&mut self, venue: &Venue) -> Event {
+        let event = self.any_event(venue);
+        if self.fills_watch == 0 {
+            return event;
+        }
+        self.fills_watch -= 1;
+        match event {
+            Event::Timed(_) => fill_watch(&mut self.rng, &self.market, venue),
+            _ if self.rng.one_in(8) => event,
+            _ => fill_watch(&mut self.rng, &self.market, venue),
+        }
+    }
+
+    fn any_event(&mut self, venue: &Venue) -> Event {
         // A full book is one for few events, and codes are looked at before it.
         let full = venue.orders.len() == PLACES && self.kind != Kind::Sound;
         if full && self.rng.one_in(4) {
@@ -567,12 +581,6 @@ impl Session {
         let keeps = untouched && !venue.kept.is_empty();
         if keeps && self.rng.one_in(4) {
             return timed(&mut self.rng, &self.market, venue);
-        }
-        if self.fills_watch > 0 {
-            self.fills_watch -= 1;
-            if !self.rng.one_in(8) {
-                return fill_watch(&mut self.rng, &self.market, venue);
-            }
         }
         if self.keeps_full {
             if let Some(event) = near_full(&mut self.rng, &self.market, venue) {

@@ -167,24 +167,28 @@ fn with_full_watch(rng: &mut Rng, market: &Market, kept: &[TimedPrice]) -> Event
 }
 
 /// Kept prices of a sound record: any number of them, often as many as there may be, in one
-/// second or in up to 300, from any time on; all tenths apart, few so, or one of the oldest.
-pub fn made_up_kept(rng: &mut Rng, market: &Market) -> Vec<TimedPrice> {
+/// second or in up to 300, from any time on; all tenths apart, few so, or one of the oldest;
+/// or all such that the trigger is a tenth above them.
+pub fn made_up_kept(rng: &mut Rng, market: &Market, close: u32) -> Vec<TimedPrice> {
     let mut kept = Vec::new();
-    let prices = rng.up_to(2);
+    let prices = rng.up_to(3);
+    let ladder = market.ladder;
+    let below = ladder.rung_of(close / 11 * 9);
     for time in made_up_times(rng) {
         let price = match prices {
             0 => {
                 let close = market.close(rng);
-                around_tenth(rng, market.ladder, close)
+                around_tenth(rng, ladder, close)
             }
             1 => alike(rng, market),
+            3 => ladder.near(rng, below, 1),
             _ => near_centre(rng, market),
         };
         kept.push(TimedPrice { time, price });
     }
     let outlier = rng.pick(&[0, 1, 3, 10, 30]);
     if prices == 2 && outlier < kept.len() {
-        kept[outlier].price = tenth_from(rng, market.ladder, kept[outlier].price);
+        kept[outlier].price = tenth_from(rng, ladder, kept[outlier].price);
     }
     kept
 }
