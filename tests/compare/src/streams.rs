@@ -789,6 +789,45 @@ pub fn trace(step: u32, seed: u64, resting: usize, events: usize) -> Trace {
     }
 }
 
+/// The same stream, with as many kept prices as there may be from its start on, which no
+/// event of it touches.
+pub fn trace_with_kept(step: u32, seed: u64, resting: usize, events: usize) -> Trace {
+    let mut trace = trace(step, seed, resting, events);
+    let mut rng = Rng::new(seed);
+    let market = Market::steady(Ladder { step });
+    let kept = (0..MOST_KEPT).map(|number| steady_price(&mut rng, &market, number));
+    trace.start.kept = kept.collect();
+    trace
+}
+
+/// Timed prices on the same book, so fast that about as many are kept as there may be, and as
+/// many dropped as come. None is a tenth from another, so all that are kept are looked at.
+pub fn timed_trace(step: u32, seed: u64, resting: usize, events: usize) -> Trace {
+    let mut rng = Rng::new(seed);
+    let market = Market::steady(Ladder { step });
+    let Trace { start, .. } = trace_with_kept(step, seed, resting, 1);
+    let (mut bytes, mut ends) = (Vec::new(), Vec::new());
+    for number in 0..events {
+        let new = steady_price(&mut rng, &market, MOST_KEPT + number);
+        push_record(&mut bytes, &Event::Timed(new));
+        ends.push(bytes.len());
+    }
+    Trace {
+        mean_resting: start.orders.len() as f64,
+        start,
+        bytes,
+        ends,
+    }
+}
+
+/// A price around the centre, 512 in 301 seconds.
+fn steady_price(rng: &mut Rng, market: &Market, number: usize) -> TimedPrice {
+    TimedPrice {
+        time: (number * 301 / MOST_KEPT) as u32,
+        price: market.ladder.near(rng, market.centre, market.reach),
+    }
+}
+
 /// Tops the book up or thins it, and in between anything.
 fn trace_event(rng: &mut Rng, market: &Market, venue: &Venue, resting: usize) -> Event {
     let len = venue.orders.len();

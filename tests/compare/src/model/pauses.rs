@@ -51,7 +51,8 @@ fn times_are_sound(kept: &[TimedPrice]) -> bool {
     let (Some(first), Some(last)) = (kept.first(), kept.last()) else {
         return true;
     };
-    let rise = kept.windows(2).all(|pair| pair[0].time <= pair[1].time);
+    let pairs = kept.iter().zip(&kept[1..]);
+    let rise = all(pairs, |(old, new)| old.time <= new.time);
     rise && last.time - first.time <= SECONDS
 }
 
@@ -59,7 +60,14 @@ fn times_are_sound(kept: &[TimedPrice]) -> bool {
 /// division.
 fn are_legal(kept: &[TimedPrice], step: u32) -> bool {
     match step {
-        HALF_CENT => kept.iter().all(|it| is_legal(HALF_CENT, it.price)),
-        _ => kept.iter().all(|it| is_legal(CENT, it.price)),
+        HALF_CENT => all(kept, |it| is_legal(HALF_CENT, it.price)),
+        _ => all(kept, |it| is_legal(CENT, it.price)),
     }
+}
+
+/// Whether all are such. Most walks go to the end, so this one has no branch.
+#[inline]
+fn all<T>(items: impl IntoIterator<Item = T>, is_such: impl Fn(T) -> bool) -> bool {
+    let items = items.into_iter();
+    items.fold(true, |sound, item| sound & is_such(item))
 }
