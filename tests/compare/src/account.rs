@@ -337,6 +337,9 @@ mod tests {
         };
         let restricted = Err(Breach::RestingShort(1));
         assert_eq!(third_day(Event::Tape { price: 81_000 }), restricted);
+        let timed = |price| Event::Timed(TimedPrice { time: 5, price });
+        assert_eq!(third_day(timed(81_000)), restricted);
+        assert_eq!(third_day(timed(81_100)), Ok(()));
         assert_eq!(third_day(Event::Tape { price: 81_100 }), Ok(()));
     }
 

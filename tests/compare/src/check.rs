@@ -84,7 +84,6 @@ impl Examiner for Checked {
             Err(refusal) => {
                 counts.refuse(&self.venue, &event, refusal);
                 self.hold(&event, Err(refusal), counts)?;
-                self.read_refused(&event, refusal)?;
                 self.check_refused(&event, refusal)?;
                 if refusal != Refusal::VenueRecord {
                     self.check_otherwise(&event, call.buffer, Err(refusal), counts)?;
@@ -142,13 +141,6 @@ impl Checked {
         }
         match &mut self.pauses {
             Some(pauses) => pauses.take(event, Ok(bytes)),
-            None => Ok(()),
-        }
-    }
-
-    fn read_refused(&mut self, event: &Event, refusal: Refusal) -> Result<(), Fault> {
-        match &mut self.pauses {
-            Some(pauses) => pauses.take(event, Err(refusal)),
             None => Ok(()),
         }
     }
@@ -218,7 +210,10 @@ impl Checked {
         Ok(())
     }
 
-    fn check_refused(&self, event: &Event, refusal: Refusal) -> Result<(), Fault> {
+    fn check_refused(&mut self, event: &Event, refusal: Refusal) -> Result<(), Fault> {
+        if let Some(pauses) = &mut self.pauses {
+            pauses.take(event, Err(refusal))?;
+        }
         ensure(self.venue == self.before, "a refused event changes nothing")?;
         let is_record = refusal == Refusal::VenueRecord;
         ensure(

@@ -238,47 +238,50 @@ mod tests {
             .collect()
     }
 
+    type Staying = fn(&State, u32) -> Vec<TimedPrice>;
+
     /// Other times that a price is kept for.
+    const WINDOWS: [(&str, Staying); 10] = [
+        ("300 excluded", |state, time| {
+            by_times(state, time, |new, old| old > new - 300)
+        }),
+        ("301 included", |state, time| {
+            by_times(state, time, |new, old| old >= new - 301)
+        }),
+        ("299 excluded too", |state, time| {
+            by_times(state, time, |new, old| old > new - 299)
+        }),
+        ("wraps below 300", |state, time| {
+            let least = time.wrapping_sub(300);
+            let kept = state.kept.iter().copied();
+            kept.filter(|old| old.time >= least).collect()
+        }),
+        ("wraps at the highest times", |state, time| {
+            let kept = state.kept.iter().copied();
+            kept.filter(|old| old.time.wrapping_add(300) >= time)
+                .collect()
+        }),
+        ("signed times", |state, time| {
+            let kept = state.kept.iter().copied();
+            let least = (time as i32).saturating_sub(300);
+            kept.filter(|old| old.time as i32 >= least).collect()
+        }),
+        ("five whole minutes", |state, time| {
+            by_times(state, time, |new, old| new / 60 - old / 60 <= 5)
+        }),
+        ("five minutes by the clock", |state, time| {
+            by_times(state, time, |new, old| new / 300 == old / 300)
+        }),
+        ("never dropped", |state, _| state.kept.clone()),
+        ("dropped by the time before", |state, time| {
+            staying(state, state.last.unwrap_or(time))
+        }),
+    ];
+
     fn other_windows() -> Vec<Wrong> {
-        type Staying = fn(&State, u32) -> Vec<TimedPrice>;
-        let wrong: [(&str, Staying); 10] = [
-            ("300 excluded", |state, time| {
-                by_times(state, time, |new, old| old > new - 300)
-            }),
-            ("301 included", |state, time| {
-                by_times(state, time, |new, old| old >= new - 301)
-            }),
-            ("299 excluded too", |state, time| {
-                by_times(state, time, |new, old| old > new - 299)
-            }),
-            ("wraps below 300", |state, time| {
-                let least = time.wrapping_sub(300);
-                let kept = state.kept.iter().copied();
-                kept.filter(|old| old.time >= least).collect()
-            }),
-            ("wraps at the highest times", |state, time| {
-                let kept = state.kept.iter().copied();
-                kept.filter(|old| old.time.wrapping_add(300) >= time)
-                    .collect()
-            }),
-            ("signed times", |state, time| {
-                let kept = state.kept.iter().copied();
-                let least = (time as i32).saturating_sub(300);
-                kept.filter(|old| old.time as i32 >= least).collect()
-            }),
-            ("five whole minutes", |state, time| {
-                by_times(state, time, |new, old| new / 60 - old / 60 <= 5)
-            }),
-            ("five minutes by the clock", |state, time| {
-                by_times(state, time, |new, old| new / 300 == old / 300)
-            }),
-            ("never dropped", |state, _| state.kept.clone()),
-            ("dropped by the time before", |state, time| {
-                staying(state, state.last.unwrap_or(time))
-            }),
-        ];
         let version = |staying| Rule { staying, ..RULE };
-        wrong.map(|(name, part)| (name, version(part))).to_vec()
+        let windows = WINDOWS.map(|(name, part)| (name, version(part)));
+        windows.to_vec()
     }
 
     /// Other notions of 22.
@@ -343,7 +346,7 @@ mod tests {
         (RULE.pauses)(new, &earlier)
     }
 
-    /// Compared with some of the kept prices only, or with others.
+    /// Compared with some of the kept prices only.
     fn other_prices() -> Vec<Wrong> {
         versions_of(&[
             ("only the last", |new, kept| over(new, kept.last().copied())),
@@ -368,6 +371,12 @@ mod tests {
                 let earlier = kept.iter().copied();
                 over(new, earlier.filter(|old| old.time == new.time))
             }),
+        ])
+    }
+
+    /// Compared with all but some, or with what is none of them.
+    fn most_prices() -> Vec<Wrong> {
+        versions_of(&[
             ("all but the oldest", |new, kept| {
                 over(new, kept.iter().copied().skip(1))
             }),
@@ -640,6 +649,7 @@ mod tests {
             other_times(),
             other_refusals(),
             other_prices(),
+            most_prices(),
             other_borders(),
             other_directions(),
             other_reports(),
