@@ -2,7 +2,9 @@
 //! the events, their answers and their reports; the law also sees the resting
 //! ids, prices and shares.
 
-use crate::model::{phase_after_day_end, phase_after_tape, Entry, Event, Report, BUY, SHORT};
+use crate::model::{
+    phase_after_day_end, phase_after_tape, Entry, Event, Report, TimedPrice, BUY, SHORT,
+};
 
 /// What breaks, with the id it breaks for where there is one.
 #[derive(Clone, Copy, Debug, PartialEq, Eq)]
@@ -95,8 +97,9 @@ impl Account {
             Event::Entry(entry) => self.start(Tally::new(entry)),
             Event::Cancel { .. } => {}
             Event::Bid { price } => self.bid = *price,
-            // No. 6 changes this rule with the venue's (E4).
-            Event::Tape { price } => {
+            // No. 6 changes this rule with the venue's, and in No. 10 "kind 7 acts as kind
+            // 4" (E4).
+            Event::Tape { price } | Event::Timed(TimedPrice { price, .. }) => {
                 self.phase = phase_after_tape(self.phase, self.close, *price);
             }
             Event::DayEnd { price } => {
@@ -154,7 +157,8 @@ impl Account {
             Report::Cancelled { id, shares, .. } => {
                 self.tally(id)?.cancelled += u64::from(shares);
             }
-            Report::RestrictionOn | Report::DayEnded { .. } => {}
+            // "report 7 is an "other report"" (E4).
+            Report::RestrictionOn | Report::DayEnded { .. } | Report::Pause { .. } => {}
         }
         Ok(())
     }
@@ -333,6 +337,9 @@ mod tests {
         };
         let restricted = Err(Breach::RestingShort(1));
         assert_eq!(third_day(Event::Tape { price: 81_000 }), restricted);
+        let timed = |price| Event::Timed(TimedPrice { time: 5, price });
+        assert_eq!(third_day(timed(81_000)), restricted);
+        assert_eq!(third_day(timed(81_100)), Ok(()));
         assert_eq!(third_day(Event::Tape { price: 81_100 }), Ok(()));
     }
 

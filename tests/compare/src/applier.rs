@@ -61,6 +61,9 @@ impl Applier {
         same("answer", number, engine::answer_of(answer))?;
         let (refusal, count) = (number / 65_536, number % 65_536);
         let bytes = if refusal == 0 {
+            if !matches!(read, Ok((Event::Timed(_) | Event::DayEnd { .. }, _))) {
+                sides.compare_kept_prices()?;
+            }
             self.compare_accepted(sides, count as usize)?
         } else {
             self.compare_refused(sides)?;

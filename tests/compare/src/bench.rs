@@ -1,5 +1,5 @@
-//! `bench`: events a second, of the model and, with the feature, the engine; and the
-//! time of a question.
+//! `bench`: events a second, of the model and, with the feature, the engine, timed prices
+//! among them; and the time of a question.
 
 use crate::bench_fill;
 #[cfg(feature = "engine")]
@@ -7,7 +7,7 @@ use crate::engine;
 #[cfg(feature = "engine")]
 use crate::model::Venue;
 use crate::model::{read_record, Progress, RecordCheck, CENT, HALF_CENT, LEAST_BUFFER};
-use crate::streams::{trace, Trace};
+use crate::streams::{timed_trace, trace, trace_with_kept, Trace};
 use std::time::{Duration, Instant};
 
 pub const SEED: u64 = 201;
@@ -170,24 +170,36 @@ impl Side {
     }
 }
 
-/// Times every side on every book, round by round in turn, at the step of a cent
-/// and then at the half-cent step, and then questions. Gives whether all sides wrote
-/// as many report bytes and read as many orders.
+/// A stream at a step, from a seed, with so many resting orders and so many events.
+type MakeTrace = fn(u32, u64, usize, usize) -> Trace;
+
+/// What is timed on every book, with its title.
+const STREAMS: [(&str, u32, MakeTrace); 4] = [
+    ("events:", CENT, trace),
+    ("half-cent stocks:", HALF_CENT, trace),
+    ("events with 512 kept prices:", CENT, trace_with_kept),
+    ("timed prices with about 512 kept:", CENT, timed_trace),
+];
+
+/// Times every side on every stream and book, round by round in turn, and then questions.
+/// Gives whether all sides wrote as many report bytes and read as many orders.
 pub fn run() -> bool {
-    let cents = BOOKS.map(|book| bench_book(CENT, book));
-    println!("half-cent stocks:");
-    let half_cents = BOOKS.map(|book| bench_book(HALF_CENT, book));
-    let questions = bench_fill::run();
-    cents.into_iter().chain(half_cents).all(|same| same) && questions
+    let mut same = true;
+    for (title, step, make) in STREAMS {
+        println!("{title}");
+        for book in BOOKS {
+            same &= bench_book(&make(step, SEED, book, EVENTS), book);
+        }
+    }
+    bench_fill::run() && same
 }
 
-fn bench_book(step: u32, book: usize) -> bool {
-    let trace = trace(step, SEED, book, EVENTS);
-    let mut lent = Lent::for_parts(&trace);
-    let names = players(&trace).into_iter().map(|(name, _)| name);
+fn bench_book(trace: &Trace, book: usize) -> bool {
+    let mut lent = Lent::for_parts(trace);
+    let names = players(trace).into_iter().map(|(name, _)| name);
     let mut sides: Vec<Side> = names.map(Side::new).collect();
     for _ in 0..ROUNDS {
-        for (side, (_, player)) in sides.iter_mut().zip(players(&trace)) {
+        for (side, (_, player)) in sides.iter_mut().zip(players(trace)) {
             side.round(player, &mut lent);
         }
     }

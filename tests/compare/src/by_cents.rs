@@ -2,13 +2,14 @@
 //! what one at the step of a cent does with its prices from 10,000 up doubled.
 //!
 //! That keeps the order of prices, which are legal, which are bids, the permitted
-//! price and the trigger. Left out are prices whose double is too high, other
-//! than the highest, at which a market buy works; a bid of 9,999, whose permitted
-//! price is doubled and it isn't; and a trigger between prices of which one is
-//! doubled and the other isn't.
+//! price, the trigger and No. 10's falls and rises. Left out are prices whose double is
+//! too high, other than the highest, at which a market buy works; a bid of 9,999, whose
+//! permitted price is doubled and it isn't; and a trigger, fall or rise between prices of
+//! which one is doubled and the other isn't.
 
 use crate::model::{
-    Entry, Event, Order, RecordCheck, Refusal, Report, Venue, CENT, DOLLAR, HALF_CENT, HIGHEST,
+    Entry, Event, Order, RecordCheck, Refusal, Report, TimedPrice, Venue, CENT, DOLLAR, HALF_CENT,
+    HIGHEST,
 };
 use crate::sessions::{ensure, Fault};
 
@@ -43,7 +44,15 @@ fn venue_doubled(venue: &Venue) -> Venue {
         close: doubled(venue.close),
         bid: doubled(venue.bid),
         orders: venue.orders.iter().map(order_doubled).collect(),
+        kept: venue.kept.iter().map(timed_doubled).collect(),
         ..*venue
+    }
+}
+
+fn timed_doubled(timed: &TimedPrice) -> TimedPrice {
+    TimedPrice {
+        price: doubled(timed.price),
+        ..*timed
     }
 }
 
@@ -63,6 +72,7 @@ fn event_doubled(event: &Event) -> Event {
         Event::DayEnd { price } => Event::DayEnd {
             price: doubled(price),
         },
+        Event::Timed(timed) => Event::Timed(timed_doubled(&timed)),
     }
 }
 
@@ -70,11 +80,18 @@ fn report_doubled(report: &Report) -> Report {
     let mut other = *report;
     if let Report::Accepted { price, .. }
     | Report::Executed { price, .. }
-    | Report::Repriced { price, .. } = &mut other
+    | Report::Repriced { price, .. }
+    | Report::Pause { price, .. } = &mut other
     {
         *price = doubled(*price);
     }
     other
+}
+
+/// Whether both prices are doubled, or neither is.
+fn are_alike(price: u32, other: u32) -> bool {
+    let stays = |price| doubled(price) == price;
+    stays(price) == stays(other)
 }
 
 /// Whether an event on a venue is one of those that can be doubled.
@@ -83,22 +100,28 @@ fn applies(venue: &Venue, event: &Event) -> bool {
         Event::Entry(Entry { price, .. })
         | Event::Bid { price }
         | Event::Tape { price }
-        | Event::DayEnd { price } => price,
+        | Event::DayEnd { price }
+        | Event::Timed(TimedPrice { price, .. }) => price,
         Event::Cancel { .. } => 0,
     };
+    let over_dollar = (price < DOLLAR) != (venue.close < DOLLAR);
+    let is_alike = |old: &TimedPrice| are_alike(price, old.price);
     let borderline = match event {
         Event::Bid { .. } => price == DOLLAR - 1,
-        Event::Tape { .. } => (price < DOLLAR) != (venue.close < DOLLAR),
+        Event::Tape { .. } => over_dollar,
+        Event::Timed(_) => over_dollar || !venue.kept.iter().all(is_alike),
         _ => false,
     };
     let orders = venue.orders.iter();
     let mut prices = orders.flat_map(|order| [order.limit, order.price, order.entry_bid]);
+    let mut kept = venue.kept.iter().map(|old| old.price);
     venue.step == HALF_CENT
         && !borderline
         && venue.bid != DOLLAR - 1
         && venue.close <= MOST
         && [price, venue.bid].into_iter().all(can_double)
         && prices.all(can_double)
+        && kept.all(can_double)
 }
 
 /// Checks an event on a sound venue record with a report buffer of that length.

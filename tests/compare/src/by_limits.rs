@@ -60,7 +60,7 @@ fn by_limit(venue: &Venue, event: &Event) -> Event {
 fn passes_with_no_bid(venue: &Venue, event: &Event) -> bool {
     match *event {
         Event::Bid { price } => price == 0,
-        Event::Tape { .. } => venue.bid == 0,
+        Event::Tape { .. } | Event::Timed(_) => venue.bid == 0,
         _ => false,
     }
 }

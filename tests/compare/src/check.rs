@@ -13,9 +13,11 @@ use crate::full_books;
 use crate::matching;
 use crate::model::{
     copy_out, depth, is_legal, permitted_price, read_record, watch_tape, write_record, Event, Fill,
-    Order, OrderRecord, Question, RecordCheck, Refusal, Report, ReportWriter, Side, Venue, Watch,
-    BUY, CENT, LEAST_BUFFER, OPT_OUT, PLACES, SHORT,
+    Order, OrderRecord, Question, RecordCheck, Refusal, Report, ReportWriter, Side, TimedPrice,
+    Venue, Watch, BUY, CENT, LEAST_BUFFER, OPT_OUT, PLACES, SHORT,
 };
+use crate::pause_rule;
+use crate::pauses::{behind_pause, Pauses};
 use crate::phase_table::{self, watched};
 use crate::price_rules;
 use crate::questions::any_questions;
@@ -32,14 +34,15 @@ pub fn run(seed: u64, events: u64) -> bool {
     sessions::run(seed, events, &mut Checked::new())
 }
 
-/// A venue under check, with the account of its events and the law of slid prices if it
-/// comes from open, and with the owners of its orders as its events gave them.
+/// A venue under check, with the account of its events, the law of slid prices and the
+/// pauses if it comes from open, and with the owners of its orders as its events gave them.
 struct Checked {
     venue: Venue,
     before: Venue,
     account: Option<Account>,
     firms: Firms,
     slid_prices: Option<SlidPrices>,
+    pauses: Option<Pauses>,
     lent: Lent,
     rng: Rng,
 }
@@ -52,8 +55,10 @@ impl Examiner for Checked {
         self.account = from_open.then(|| Account::new(self.venue.close));
         self.firms = Firms::start(&self.venue);
         self.slid_prices = SlidPrices::start(from_open);
+        self.pauses = Pauses::start(from_open, self.venue.step);
         price_rules::check_record(&self.venue)?;
         by_owners::check_record(&self.venue)?;
+        pause_rule::check_record(&self.venue)?;
         let opened = Venue::open(self.venue.step, self.venue.close);
         ensure(!from_open || opened.as_ref() == Ok(&self.venue), "open")
     }
@@ -121,6 +126,7 @@ impl Checked {
             venue,
             account: None,
             slid_prices: None,
+            pauses: None,
             lent: Lent::new(),
             rng: Rng::new(0),
         }
@@ -130,8 +136,11 @@ impl Checked {
     fn read_list(&mut self, event: &Event, count: usize) -> Result<(), Fault> {
         let bytes = self.lent.front(count);
         self.firms.take(event, bytes)?;
-        match &mut self.slid_prices {
-            Some(slid_prices) => slid_prices.take(event, bytes),
+        if let Some(slid_prices) = &mut self.slid_prices {
+            slid_prices.take(event, bytes)?;
+        }
+        match &mut self.pauses {
+            Some(pauses) => pauses.take(event, Ok(bytes)),
             None => Ok(()),
         }
     }
@@ -173,8 +182,8 @@ impl Checked {
 
     /// An event on a sound record does what document 01 says without market orders
     /// and with its own step, by the same prices or by doubled ones; keeps to the
-    /// table of phases; does what it does without owners; and in a full book does what it
-    /// does where there is room.
+    /// table of phases and to the rule of timed prices; does what it does without owners; and
+    /// in a full book does what it does where there is room.
     fn check_otherwise(
         &self,
         event: &Event,
@@ -188,6 +197,7 @@ impl Checked {
         counts.full_books.check(with_room);
         by_limits::check(before, event, buffer, answer, after)?;
         phase_table::check(before, event, buffer, answer, after)?;
+        pause_rule::check(before, event, buffer, answer, after)?;
         let as_before = matching::check(before, event, answer, after)?;
         let without_owners = by_owners::check(before, event, buffer, answer, after)?;
         counts.withdrawals.check(as_before, without_owners);
@@ -200,7 +210,10 @@ impl Checked {
         Ok(())
     }
 
-    fn check_refused(&self, event: &Event, refusal: Refusal) -> Result<(), Fault> {
+    fn check_refused(&mut self, event: &Event, refusal: Refusal) -> Result<(), Fault> {
+        if let Some(pauses) = &mut self.pauses {
+            pauses.take(event, Err(refusal))?;
+        }
         ensure(self.venue == self.before, "a refused event changes nothing")?;
         let is_record = refusal == Refusal::VenueRecord;
         ensure(
@@ -217,7 +230,11 @@ impl Checked {
             "16 of copy out",
         )?;
         match *event {
-            Event::Tape { price } if refusal == Refusal::Price => check_watch(&self.before, price),
+            Event::Tape { price } | Event::Timed(TimedPrice { price, .. })
+                if refusal == Refusal::Price =>
+            {
+                check_watch(&self.before, price)
+            }
             Event::Bid { price } if refusal == Refusal::Price => ensure(
                 permitted_price(self.venue.step, price) == Err(Refusal::Price),
                 "the permitted price refuses what isn't a bid",
@@ -232,7 +249,9 @@ impl Checked {
         ensure(venue.accepted == before.accepted + 1, "accepted events")?;
         check_stamps(before, venue, event, reports)?;
         match *event {
-            Event::Tape { price } => check_watch(before, price)?,
+            Event::Tape { price } | Event::Timed(TimedPrice { price, .. }) => {
+                check_watch(before, price)?;
+            }
             Event::Bid { price } => check_permitted(before.step, price)?,
             _ => {}
         }
@@ -266,13 +285,14 @@ fn check_reached(
         let above = order.price > order.limit;
         ensure(!order.market || (follows && above), "market shorts")?;
     }
+    let reports = behind_pause(event, reports);
+    let is_tape = matches!(event, Event::Tape { .. } | Event::Timed(_));
     let idle = match *event {
         Event::Bid { price } => price == before.bid,
-        Event::Tape { .. } => after.phase == before.phase,
-        _ => false,
+        _ => is_tape && after.phase == before.phase,
     };
     ensure(!idle || reports.is_empty(), "an idle event moves no order")?;
-    let falls_again = before.phase == 2 && matches!(event, Event::Tape { .. }) && !idle;
+    let falls_again = before.phase == 2 && is_tape && !idle;
     let is_alone = reports == [Report::RestrictionOn];
     ensure(!falls_again || is_alone, "a second fall moves no order")
 }
@@ -334,7 +354,7 @@ fn check_stamps(
     ensure(after.last_stamp == last, "the last stamp")?;
     let most = match event {
         Event::Entry(_) => 1,
-        Event::Bid { .. } | Event::Tape { .. } => PLACES as u32,
+        Event::Bid { .. } | Event::Tape { .. } | Event::Timed(_) => PLACES as u32,
         Event::Cancel { .. } | Event::DayEnd { .. } => 0,
     };
     ensure(last - before.last_stamp <= most, "stamps of one event")

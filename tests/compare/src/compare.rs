@@ -5,8 +5,8 @@
 //! the record don't matter; open refuses a run that is too short with 16, before
 //! 17 for the step and 3 for the close; the permitted price is 0 for both of
 //! these; a fresh venue is 0 in every place; later, places that the
-//! venue doesn't use may hold anything; words behind the venue keep their
-//! content; a side is a buy where it is 0, and depth refuses with 2^64 - 1. Play
+//! venue doesn't use may hold anything; spare words and words behind the venue keep
+//! their content, and so do all words of the kept prices but in a timed price and a day end; a side is a buy where it is 0, and depth refuses with 2^64 - 1. Play
 //! looks at the venue first, so there 16 comes before 9 to 12. The fill question
 //! refuses a run that is too short with 16 too.
 
@@ -17,6 +17,7 @@ use crate::firms::Firms;
 use crate::full_books;
 use crate::model::{read_record, Event, Refusal, Report, Venue, LEAST_BUFFER};
 use crate::observe::Observer;
+use crate::pauses::Pauses;
 use crate::replay::Replay;
 use crate::rng::Rng;
 use crate::sessions::{self, Examiner, Fault};
@@ -45,11 +46,13 @@ pub fn same<T: PartialEq + std::fmt::Debug>(what: &str, engine: T, model: T) -> 
 }
 
 /// Both sides, and what they are lent; the owners of the engine's orders as the events that
-/// it accepted gave them; and from open the law of slid prices, of the engine's reports.
+/// it accepted gave them; and from open the law of slid prices and the pauses, of the engine's
+/// answers and reports.
 struct Pair {
     sides: Sides,
     firms: Firms,
     slid_prices: Option<SlidPrices>,
+    pauses: Option<Pauses>,
     applier: Applier,
     observer: Observer,
     replay: Replay,
@@ -62,6 +65,7 @@ impl Pair {
         Pair {
             firms: Firms::start(&sides.venue),
             slid_prices: None,
+            pauses: None,
             sides,
             applier: Applier::new(),
             observer: Observer::new(),
@@ -80,20 +84,33 @@ impl Pair {
             (Err(refusal), _) => counts.refuse_record(refusal),
             (Ok((event, _)), Err(refusal)) => {
                 counts.refuse(&before, &event, refusal);
+                self.read(&event, Err(refusal))?;
                 self.check_full(&before, &event, call.buffer, Err(refusal), counts)?;
             }
             (Ok((event, _)), Ok(count)) => {
                 let reports = Report::read_all(&applied.bytes);
                 let reports = reports.map_err(|refusal| format!("reports: {refusal:?}"))?;
-                self.firms.take(&event, &applied.bytes)?;
-                if let Some(slid_prices) = &mut self.slid_prices {
-                    slid_prices.take(&event, &applied.bytes)?;
-                }
+                self.read(&event, Ok(&applied.bytes))?;
                 counts.accept(&before, &event, count, &reports);
                 self.check_full(&before, &event, call.buffer, Ok(&reports), counts)?;
             }
         }
         Ok(applied)
+    }
+
+    /// What is read from events and the engine's answers and report bytes alone.
+    fn read(&mut self, event: &Event, answer: Result<&[u8], Refusal>) -> Result<(), Fault> {
+        if let Some(pauses) = &mut self.pauses {
+            pauses.take(event, answer)?;
+        }
+        let Ok(bytes) = answer else {
+            return Ok(());
+        };
+        self.firms.take(event, bytes)?;
+        match &mut self.slid_prices {
+            Some(slid_prices) => slid_prices.take(event, bytes),
+            None => Ok(()),
+        }
     }
 
     /// What the engine answered to an entry, held against the rule for full books and
@@ -140,7 +157,9 @@ impl Examiner for Pair {
         self.rng = Rng::new(!seed);
         self.sides.start(&mut self.rng, session, counts)?;
         self.firms = Firms::start(&self.sides.venue);
-        self.slid_prices = SlidPrices::start(session.kind.is_from_open());
+        let from_open = session.kind.is_from_open();
+        self.slid_prices = SlidPrices::start(from_open);
+        self.pauses = Pauses::start(from_open, self.sides.venue.step);
         self.replay.start(&self.sides);
         self.look(counts)
     }

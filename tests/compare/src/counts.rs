@@ -8,6 +8,7 @@ use crate::market_orders::MarketOrders;
 #[cfg(feature = "engine")]
 use crate::model::{is_step, Stop};
 use crate::model::{Event, Refusal, Report, Venue, Watch};
+use crate::pause_counts::Pausing;
 use crate::refused_entries::RefusedEntries;
 use crate::rng::Rng;
 use crate::slid_price_counts::Slides;
@@ -19,13 +20,15 @@ use std::fmt;
 const MOST_PRINTED: u64 = 10;
 
 /// What an event may be refused with, its record included.
-const OF_EVENTS: [usize; 17] = [1, 2, 3, 4, 5, 6, 7, 8, 9, 10, 11, 12, 16, 18, 19, 20, 21];
+const OF_EVENTS: [usize; 19] = [
+    1, 2, 3, 4, 5, 6, 7, 8, 9, 10, 11, 12, 16, 18, 19, 20, 21, 22, 23,
+];
 
 /// How often a call was accepted, and how often refused with which number.
 #[derive(Default)]
 pub struct Answers {
     accepted: u64,
-    refused: [u64; 22],
+    refused: [u64; 24],
 }
 
 impl Answers {
@@ -66,6 +69,7 @@ pub struct Counts {
     pub withdrawals: Withdrawals,
     pub full_books: FullBooks,
     slides: Slides,
+    pausing: Pausing,
     #[cfg(feature = "engine")]
     host: HostCounts,
 }
@@ -110,6 +114,7 @@ impl Counts {
         self.withdrawals.start(&session.start, from_open);
         self.full_books.start(from_open);
         self.slides.start(from_open);
+        self.pausing.start(&session.start, from_open);
     }
 
     /// A record that can't be read.
@@ -124,6 +129,7 @@ impl Counts {
         self.half_cents.refuse(venue.step, event, refusal);
         self.refused_entries.refuse(venue, event, refusal);
         self.full_books.refuse(venue, event, refusal);
+        self.pausing.take(venue, event, Err(refusal));
     }
 
     /// An accepted event, with the venue before it, the byte count of its
@@ -136,6 +142,7 @@ impl Counts {
         self.withdrawals.accept(before, event, reports);
         self.full_books.accept(before, event, reports);
         self.slides.accept(before, event, reports);
+        self.pausing.take(before, event, Ok(reports));
         self.most_bytes = self.most_bytes.max(bytes);
         for report in reports {
             match report {
@@ -313,6 +320,7 @@ impl fmt::Display for Counts {
         writeln!(f, "{}", self.withdrawals)?;
         writeln!(f, "{}", self.full_books)?;
         writeln!(f, "{}", self.slides)?;
+        writeln!(f, "{}", self.pausing)?;
         #[cfg(feature = "engine")]
         if self.host.copies.accepted > 0 {
             write!(f, "{}", self.host)?;

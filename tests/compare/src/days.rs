@@ -24,6 +24,7 @@ pub fn push_event(input: &mut Vec<u8>, event: &str) {
             "bid" => 3,
             "tape" => 4,
             "end" => 5,
+            "timed" => 7,
             number => number.parse().expect("a number"),
         };
         push_number(input, number);

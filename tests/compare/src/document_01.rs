@@ -1,7 +1,7 @@
 //! The price rules of document 01 as they stand there, before any step, and an
 //! event at the step of a cent checked by them. No formula here is the model's.
 
-use crate::model::{Event, Order, Refusal, Report, Venue};
+use crate::model::{Event, Order, Refusal, Report, TimedPrice, Venue};
 use crate::sessions::{ensure, Fault};
 
 /// "legal from 1 to 100,000,000; from 10,000 up it is a multiple of 100"
@@ -44,7 +44,9 @@ pub fn check(
         Event::Entry(entry) => entry.price == 0 || is_legal(entry.price),
         Event::Cancel { .. } => true,
         Event::Bid { price } => is_bid(price),
-        Event::Tape { price } | Event::DayEnd { price } => is_legal(price),
+        Event::Tape { price }
+        | Event::DayEnd { price }
+        | Event::Timed(TimedPrice { price, .. }) => is_legal(price),
     };
     let reports = match answer {
         Err(Refusal::ShortBuffer | Refusal::Spent) => return Ok(()),
@@ -141,6 +143,7 @@ mod tests {
                 Event::Bid { price },
                 Event::Tape { price },
                 Event::DayEnd { price },
+                Event::Timed(TimedPrice { time: 0, price }),
             ];
             for event in events {
                 assert!(check(&venue, &event, Ok(&[]), &venue).is_err());

@@ -1,8 +1,10 @@
 //! The proved engine behind its C functions, and the layout of its words.
 
 use crate::model::{
-    Fill, Order, OrderRecord, Progress, Question, Refusal, Venue, Watch, CENT, HALF_CENT, PLACES,
+    Fill, Order, OrderRecord, Progress, Question, Refusal, TimedPrice, Venue, Watch, CENT,
+    HALF_CENT, MOST_KEPT, PLACES,
 };
+use std::ops::Range;
 
 /// A number that include/venue.h defines, as build.rs passes it on.
 const fn number(digits: &str) -> usize {
@@ -25,10 +27,19 @@ const _: () = assert!(number(env!("VENUE_CENT")) == CENT as usize);
 const _: () = assert!(number(env!("VENUE_HALF_CENT")) == HALF_CENT as usize);
 
 const HEADER_WORDS: usize = 16;
-const ORDER_WORDS: usize = (VENUE_WORDS - HEADER_WORDS) / PLACES;
+const ORDER_WORDS: usize = 15;
+/// A kept price is its time and its price; they stand behind the book, oldest first.
+const TIMED_WORDS: usize = 2;
+const KEPT_AT: usize = HEADER_WORDS + PLACES * ORDER_WORDS;
+const _: () = assert!(VENUE_WORDS == KEPT_AT + MOST_KEPT * TIMED_WORDS);
+/// The words of the kept prices; those beyond their count may hold anything.
+pub const KEPT_PRICES: Range<usize> = KEPT_AT..VENUE_WORDS;
 
-/// The places of the count of orders and of the layout's number.
+/// The places of the count of orders, of that of kept prices and of the layout's number, and
+/// the spare words, which may hold anything and stay.
 pub const COUNT_AT: usize = 0;
+pub const KEPT_COUNT_AT: usize = 8;
+pub const SPARE: Range<usize> = 9..15;
 pub const LAYOUT_AT: usize = HEADER_WORDS - 1;
 /// The flags of an order, and their place: adjusted, used, clear, market.
 pub const FLAGS: usize = 4;
@@ -210,29 +221,27 @@ pub fn count_read(answer: u32) -> usize {
     (answer % YES) as usize
 }
 
-/// The layout of the header, in whose first word the count of orders stands, and
-/// in whose last the number of the layout.
-fn header_of(venue: &Venue) -> [u32; HEADER_WORDS] {
-    let fields = [
-        venue.orders.len() as u32,
-        venue.close,
-        venue.phase,
-        venue.bid,
-        venue.last_id,
-        venue.last_stamp,
-        venue.accepted,
-        venue.step,
-    ];
-    let mut words = [0; HEADER_WORDS];
-    words[..fields.len()].copy_from_slice(&fields);
-    words[LAYOUT_AT] = LAYOUT;
-    words
+/// The words of the header that mean something, the spare ones left out: the count of
+/// orders first, that of kept prices, and the number of the layout last.
+fn header_of(venue: &Venue) -> [(usize, u32); 10] {
+    [
+        (COUNT_AT, venue.orders.len() as u32),
+        (1, venue.close),
+        (2, venue.phase),
+        (3, venue.bid),
+        (4, venue.last_id),
+        (5, venue.last_stamp),
+        (6, venue.accepted),
+        (7, venue.step),
+        (KEPT_COUNT_AT, venue.kept.len() as u32),
+        (LAYOUT_AT, LAYOUT),
+    ]
 }
 
-/// The words of a fresh venue: its header, and 0 in every place.
+/// The words of a fresh venue: its header, and 0 in every other word.
 pub fn fresh_words(venue: &Venue) -> Vec<u32> {
     let mut words = vec![0; VENUE_WORDS];
-    words[..HEADER_WORDS].copy_from_slice(&header_of(venue));
+    store(venue, &mut words);
     words
 }
 
@@ -257,32 +266,38 @@ fn words_of(order: &Order) -> [u32; ORDER_WORDS] {
     ]
 }
 
-/// Writes a venue as words; the places that it doesn't use keep their content.
+/// The words that mean a venue, each with its place; of orders and kept prices as many as
+/// there is room for.
+fn meaning(venue: &Venue) -> impl Iterator<Item = (usize, u32)> + '_ {
+    let orders = venue.orders.iter().flat_map(words_of);
+    let orders = (HEADER_WORDS..KEPT_AT).zip(orders);
+    let pair = |timed: &TimedPrice| [timed.time, timed.price];
+    let kept = KEPT_PRICES.zip(venue.kept.iter().flat_map(pair));
+    header_of(venue).into_iter().chain(orders).chain(kept)
+}
+
+/// Writes a venue as words; all others keep their content.
 pub fn store(venue: &Venue, words: &mut [u32]) {
-    let (header, places) = words.split_at_mut(HEADER_WORDS);
-    header.copy_from_slice(&header_of(venue));
-    let places = places.chunks_exact_mut(ORDER_WORDS);
-    for (place, order) in places.zip(&venue.orders) {
-        place.copy_from_slice(&words_of(order));
+    for (at, word) in meaning(venue) {
+        words[at] = word;
     }
 }
 
-/// The first word that isn't the venue's, places that it doesn't use left out:
-/// where it lies, what it is and what it should be.
+/// The first word that isn't the venue's, those that it doesn't use left out: where it lies,
+/// what it is and what it should be.
 pub fn first_difference(venue: &Venue, words: &[u32]) -> Option<(usize, u32, u32)> {
-    let orders = venue.orders.iter().flat_map(words_of);
-    let expected = header_of(venue).into_iter().chain(orders);
-    let pairs = words.iter().zip(expected).enumerate();
-    pairs
-        .map(|(at, (&found, expected))| (at, found, expected))
+    let found = |(at, expected)| (at, words[at], expected);
+    meaning(venue)
+        .map(found)
         .find(|(_, found, expected)| found != expected)
 }
 
-/// The words that mean a venue: the header, and the places that it uses.
-pub fn used(words: &[u32]) -> &[u32] {
-    let orders = words[COUNT_AT] as usize;
-    let used = HEADER_WORDS + ORDER_WORDS * orders.min(PLACES);
-    &words[..used]
+/// The words that mean a venue: the header, and the orders and kept prices that it uses.
+pub fn used(words: &[u32]) -> Vec<u32> {
+    let orders = ORDER_WORDS * (words[COUNT_AT] as usize).min(PLACES);
+    let kept = TIMED_WORDS * (words[KEPT_COUNT_AT] as usize).min(MOST_KEPT);
+    let (book, prices) = (&words[..HEADER_WORDS + orders], &words[KEPT_AT..]);
+    [book, &prices[..kept]].concat()
 }
 
 /// The place of a flag word of an order, by the order's and the flag's number.

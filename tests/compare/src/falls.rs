@@ -4,7 +4,8 @@
 use crate::by_owners::withdrawn;
 use crate::document_01::triggers;
 use crate::ladder::Ladder;
-use crate::model::{Event, Order, Report, Venue, Watch, CENT, OPT_OUT, SHORT};
+use crate::model::{Event, Order, Report, TimedPrice, Venue, Watch, CENT, OPT_OUT, SHORT};
+use crate::pauses::behind_pause;
 use crate::reached::{self, smaller, Line, Named};
 use std::fmt;
 
@@ -179,7 +180,9 @@ impl Falls {
     /// Takes an accepted event, the venue before it and its reports.
     pub fn accept(&mut self, before: &Venue, event: &Event, reports: &[Report]) {
         match *event {
-            Event::Tape { price } => self.tape(before, price, reports),
+            Event::Tape { price } | Event::Timed(TimedPrice { price, .. }) => {
+                self.tape(before, price, behind_pause(event, reports));
+            }
             Event::DayEnd { .. } => {
                 let in_a_row = u64::from(self.ended);
                 let counts = self.at_step(before.step);

@@ -1,7 +1,9 @@
 //! What a run counts of half-cent stocks, so that its end shows that document 02's
 //! No. 2 was reached.
 
-use crate::model::{is_legal, Event, Refusal, Report, Venue, CENT, DOLLAR, HALF_CENT, HIGHEST};
+use crate::model::{
+    is_legal, Event, Refusal, Report, TimedPrice, Venue, CENT, DOLLAR, HALF_CENT, HIGHEST,
+};
 use crate::reached::{self, Line, Named};
 use crate::streams::Session;
 use std::fmt;
@@ -22,13 +24,15 @@ fn at_step(venue: &Venue, step: u32) -> Venue {
 /// How many half-cent prices a record has in each of the places that the step
 /// judges.
 fn half_cents_by_place(venue: &Venue) -> ByPlace {
-    let mut counts = [venue.close, venue.bid, 0, 0, 0].map(|price| is_half_cent(price).into());
+    let mut counts = [venue.close, venue.bid, 0, 0, 0, 0].map(|price| is_half_cent(price).into());
     for order in &venue.orders {
         let places = [order.limit, order.price, order.entry_bid];
         for (count, price) in counts[2..].iter_mut().zip(places) {
             *count += u64::from(is_half_cent(price));
         }
     }
+    let kept = venue.kept.iter().filter(|old| is_half_cent(old.price));
+    counts[5] = kept.count() as u64;
     counts
 }
 
@@ -40,18 +44,19 @@ fn price_of(event: &Event) -> Option<(usize, u32)> {
         Event::Bid { price } => Some((1, price)),
         Event::Tape { price } => Some((2, price)),
         Event::DayEnd { price } => Some((3, price)),
+        Event::Timed(TimedPrice { price, .. }) => Some((4, price)),
     }
 }
 
-/// Of events by their kind: entries, bids, tape prices, day ends.
-type ByKind = [u64; 4];
+/// Of events by their kind: entries, bids, tape prices, day ends, timed prices.
+type ByKind = [u64; 5];
 
 /// Of a record's prices by their places: close, bid; limits, prices and entry bids
-/// of orders.
-type ByPlace = [u64; 5];
+/// of orders; kept prices.
+type ByPlace = [u64; 6];
 
 fn by_kind(counts: &ByKind) -> Vec<Named> {
-    let kinds = ["entries", "bids", "tape prices", "closes"];
+    let kinds = ["entries", "bids", "tape prices", "closes", "timed prices"];
     counts.iter().copied().zip(kinds).collect()
 }
 
@@ -142,7 +147,7 @@ impl Sessions {
                 self.other_step += u64::from(half_cents);
                 let places = half_cents_by_place(venue);
                 if places.iter().sum::<u64>() == 1 {
-                    (0..5).for_each(|place| self.by_one[place] += places[place]);
+                    (0..6).for_each(|place| self.by_one[place] += places[place]);
                 }
             }
             _ => {
@@ -170,7 +175,7 @@ impl Sessions {
     }
 
     fn places(&self) -> Vec<Named> {
-        let places = ["close", "bid", "limit", "price", "entry bid"];
+        let places = ["close", "bid", "limit", "price", "entry bid", "kept price"];
         self.by_one.into_iter().zip(places).collect()
     }
 }
@@ -213,7 +218,7 @@ impl Reached {
                     let tape = price_of(event).map_or(0, |(_, price)| price);
                     self.triggers += u64::from(is_half_cent(tape) || is_half_cent(close));
                 }
-                Report::Cancelled { .. } | Report::DayEnded { .. } => {}
+                Report::Cancelled { .. } | Report::DayEnded { .. } | Report::Pause { .. } => {}
             }
         }
         let highest = Event::Bid {

@@ -6,6 +6,7 @@ use crate::model::{
 use crate::odd::{half_cent_price, odd_number, odd_owner, odd_price, odd_step};
 use crate::rng::Rng;
 use crate::streams::Market;
+use crate::timed_events::{made_up_kept, spoil_kept};
 
 /// So many different numbers from 1 to `last`, rising.
 fn rising(rng: &mut Rng, count: u32, last: u32) -> Vec<u32> {
@@ -25,7 +26,7 @@ fn shuffle(rng: &mut Rng, numbers: &mut [u32]) {
 
 /// A sound venue record that open need not reach: crossed books, prices below
 /// limits, any flags, market shorts in any phase, own orders on both sides, full books,
-/// last numbers close to their ends.
+/// any kept prices, last numbers close to their ends.
 pub fn made_up(rng: &mut Rng, market: &Market) -> Venue {
     let most = PLACES as u32;
     let (few, some) = (rng.up_to(8), rng.up_to(most));
@@ -42,9 +43,10 @@ pub fn made_up(rng: &mut Rng, market: &Market) -> Venue {
     shuffle(rng, &mut stamps);
     let bid = market.bid(rng, 0);
     let ids = rising(rng, count, last_id).into_iter().zip(stamps);
+    let close = market.close(rng);
     Venue {
         step: market.ladder.step,
-        close: market.close(rng),
+        close,
         phase: rng.pick(&[0, 1, 2, 2, 2]),
         bid,
         last_id,
@@ -53,6 +55,7 @@ pub fn made_up(rng: &mut Rng, market: &Market) -> Venue {
         orders: ids
             .map(|(id, stamp)| made_up_order(rng, market, id, stamp))
             .collect(),
+        kept: made_up_kept(rng, market, close),
     }
 }
 
@@ -109,7 +112,7 @@ pub fn put_on_one_side(rng: &mut Rng, venue: &mut Venue) {
 pub fn spoil_record(rng: &mut Rng, venue: &mut Venue) {
     let odd = odd_number(rng);
     let len = venue.orders.len();
-    match rng.up_to(43) {
+    match rng.up_to(63) {
         0 => venue.close = odd,
         1 => venue.phase = odd,
         2 => venue.bid = odd,
@@ -126,6 +129,7 @@ pub fn spoil_record(rng: &mut Rng, venue: &mut Venue) {
         8..14 => spoil_step(rng, venue),
         14..24 => spoil_price(rng, venue),
         24..32 if len > 0 => venue.orders[rng.place(len)].owner = bad_owner(rng),
+        44.. => spoil_kept(rng, &mut venue.kept),
         _ if len > 0 => {
             let (at, any) = (rng.place(len), rng.place(len));
             let other = rng.pick(&[at.saturating_sub(1), any]);
@@ -157,10 +161,11 @@ fn bad_owner(rng: &mut Rng) -> u32 {
 fn spoil_price(rng: &mut Rng, venue: &mut Venue) {
     let (half_cents, odd) = (half_cent_price(rng), odd_price(rng));
     let number = rng.pick(&[half_cents, half_cents, HIGHEST - HALF_CENT, odd]);
-    let len = venue.orders.len();
-    let place = match rng.up_to(7) {
+    let (len, kept) = (venue.orders.len(), venue.kept.len());
+    let place = match rng.up_to(9) {
         0 => &mut venue.close,
         1 => &mut venue.bid,
+        8.. if kept > 0 => &mut venue.kept[rng.place(kept)].price,
         _ if len == 0 => &mut venue.bid,
         2..4 => &mut venue.orders[rng.place(len)].limit,
         4..6 => &mut venue.orders[rng.place(len)].price,

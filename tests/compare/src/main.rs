@@ -1,4 +1,4 @@
-//! A second implementation of the venue of document 01 and of No. 1 to No. 9 of
+//! A second implementation of the venue of document 01 and of No. 1 to No. 10 of
 //! document 02, and its comparison with the proved engine. See README.md.
 
 mod account;
@@ -60,6 +60,11 @@ mod observe;
 mod odd;
 #[cfg(any(test, feature = "engine"))]
 mod output;
+mod pause_counts;
+#[cfg(test)]
+mod pause_days;
+mod pause_rule;
+mod pauses;
 mod phase_table;
 mod price_rules;
 mod program;
@@ -82,6 +87,7 @@ mod slid_prices;
 #[cfg(test)]
 mod slides_gone_wrong;
 mod streams;
+mod timed_events;
 mod withdrawals;
 
 use model::{CENT, HALF_CENT};

@@ -65,7 +65,7 @@ impl MarketOrders {
                 self.stay(before, price, event);
                 self.reprice(before, price, reports);
             }
-            Event::Tape { .. } => {
+            Event::Tape { .. } | Event::Timed(_) => {
                 self.stayed_at_tape += self.stay(before, before.bid, event);
                 self.reprice(before, before.bid, reports);
             }

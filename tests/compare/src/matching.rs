@@ -154,7 +154,7 @@ fn walk(matching: Matching, before: &Venue, event: &Event, reports: &[Report]) -
                 }
                 continue;
             }
-            (Report::RestrictionOn | Report::DayEnded { .. }, _) => continue,
+            (Report::RestrictionOn | Report::DayEnded { .. } | Report::Pause { .. }, _) => continue,
             _ => return None,
         };
         let made = matching(&mut book, &mut working, in_pass);

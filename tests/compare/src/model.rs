@@ -1,10 +1,11 @@
-//! A plain implementation of document 01 and, of document 02, of No. 1 to No. 8,
+//! A plain implementation of document 01 and, of document 02, of No. 1 to No. 10,
 //! written from the papers and the readings alone. Comments in quotation marks are
 //! sentences of the papers, letters with numbers (A1, F1.3) are readings.
 
 mod book;
 mod fill;
 mod form;
+mod pauses;
 mod play;
 mod prices;
 #[cfg(test)]
@@ -17,6 +18,7 @@ pub use form::{
     byte_count, read_number, read_record, write_number, write_record, Entry, Event, Report,
     ReportWriter, LONGEST_NUMBER,
 };
+pub use pauses::{TimedPrice, MOST_KEPT};
 pub use play::Progress;
 #[cfg(feature = "engine")]
 pub use play::Stop;
@@ -53,6 +55,8 @@ pub enum Refusal {
     SlideCode = 19,
     SlideOnMark = 20,
     Owner = 21,
+    Time = 22,
+    KeptPrices = 23,
 }
 
 impl Refusal {

@@ -1,10 +1,12 @@
 //! The phases of document 01 and No. 6 of document 02 as a table: what a tape price and
 //! a day end make of each, where report 5 stands, and what becomes of a watch. No
 //! formula here is the model's. Behind report 5, a second fall does what the same tape
-//! price does in phase 1.
+//! price does in phase 1. A timed price "does all that a tape event does", behind its report
+//! 7.
 
 use crate::document_01::triggers;
-use crate::model::{Event, RecordCheck, Refusal, Report, Venue, Watch};
+use crate::model::{Event, RecordCheck, Refusal, Report, TimedPrice, Venue, Watch};
+use crate::pauses::behind_pause;
 use crate::sessions::{ensure, Fault};
 
 /// How phases follow each other, in parts.
@@ -78,10 +80,13 @@ impl Rule {
         reports: &[Report],
         after: &Venue,
     ) -> bool {
+        let reports = behind_pause(event, reports);
         let was = before.phase;
         let close = (self.close)(was, before.close, close_before);
         let (phase, on) = match *event {
-            Event::Tape { price } => (self.tape)(was, close, price),
+            Event::Tape { price } | Event::Timed(TimedPrice { price, .. }) => {
+                (self.tape)(was, close, price)
+            }
             Event::DayEnd { .. } => ((self.day_end)(was), false),
             _ => (was, false),
         };
@@ -112,20 +117,24 @@ pub fn check(
     let holds = RULE.holds(before.close, before, event, reports, after);
     ensure(holds, "the table of phases")?;
     match *event {
-        Event::Tape { price } if before.phase == 2 && triggers(before.close, price) => {
-            check_second_fall(before, event, buffer, &reports[1..], after)
+        Event::Tape { price } | Event::Timed(TimedPrice { price, .. })
+            if before.phase == 2 && triggers(before.close, price) =>
+        {
+            let others = reports.iter().filter(|report| !is_on(report)).copied();
+            let others: Vec<Report> = others.collect();
+            check_second_fall(before, event, buffer, &others, after)
         }
         _ => Ok(()),
     }
 }
 
-/// The reports behind report 5 and the venue are those of the same tape price on the
+/// The reports but for report 5 and the venue are those of the same tape price on the
 /// same venue in phase 1.
 fn check_second_fall(
     before: &Venue,
     event: &Event,
     buffer: usize,
-    behind: &[Report],
+    others: &[Report],
     after: &Venue,
 ) -> Result<(), Fault> {
     let mut other = Venue {
@@ -135,7 +144,7 @@ fn check_second_fall(
     let mut bytes = vec![0; buffer];
     let answer = other.apply(event, &mut bytes, RecordCheck::Done);
     let reports = answer.and_then(|count| Report::read_all(&bytes[..count]));
-    let same = reports.as_deref() == Ok(behind);
+    let same = reports.as_deref() == Ok(others);
     ensure(same, "the reports of a second fall")?;
     ensure(*after == other, "the venue of a second fall")
 }

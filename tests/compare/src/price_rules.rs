@@ -57,11 +57,13 @@ fn with_low_prices(venue: &Venue) -> Venue {
         order.limit = if order.limit == 1 { 1 } else { 2 };
         (order.price, order.entry_bid) = (1, 0);
     }
+    other.kept.iter_mut().for_each(|old| old.price = 1);
     other
 }
 
 /// A venue record is sound where its step is one, "prices and limits legal",
-/// "close legal", "bid and entry bids each a bid" at that step, and the rest is.
+/// "close legal", "bid and entry bids each a bid" at that step, no kept price is "an illegal
+/// one", and the rest is.
 pub fn check_record(venue: &Venue) -> Result<(), Fault> {
     let step = venue.step;
     let is_priced = |order: &Order| {
@@ -72,6 +74,7 @@ pub fn check_record(venue: &Venue) -> Result<(), Fault> {
         && is_legal(step, venue.close)
         && is_bid(step, venue.bid)
         && venue.orders.iter().all(is_priced)
+        && venue.kept.iter().all(|old| is_legal(step, old.price))
         && with_low_prices(venue).is_sound();
     ensure(venue.is_sound() == sound, "a record at its step")
 }

@@ -3,13 +3,13 @@
 use crate::compare::same;
 use crate::counts::Counts;
 use crate::engine;
-use crate::model::{Refusal, Venue, CENT, PLACES};
+use crate::model::{Refusal, Venue, CENT};
 use crate::odd::{any_price, any_step};
 use crate::rng::Rng;
 use crate::sessions::Fault;
 use crate::streams::Session;
 
-/// Room for a broken record of 257 orders, and words behind the venue.
+/// Room for words behind the venue.
 const WORDS: usize = engine::VENUE_WORDS + 64;
 
 /// Lengths of runs for open: too short, just long enough, longer.
@@ -77,10 +77,8 @@ impl Sides {
             self.compare_open(self.lent_words, step, close, counts)?;
             self.compare_venue()
         } else {
+            // Places that it doesn't use and the spare words hold noise.
             engine::store(&self.venue, &mut self.words);
-            if self.venue.orders.len() > PLACES {
-                self.lent_words = WORDS;
-            }
             self.spoil(rng);
             Ok(())
         }
@@ -143,14 +141,24 @@ impl Sides {
         same(what, differing, None)
     }
 
-    /// The words are those of the model's venue, and those behind it as ever.
+    /// The words are those of the model's venue, the spare ones are those from before the
+    /// call, and those behind it as ever.
     pub fn compare_venue(&self) -> Result<(), Fault> {
         if let Some((at, found, expected)) = engine::first_difference(&self.venue, &self.words) {
             return same(&format!("word {at} of the venue"), found, expected);
         }
+        let (spare, before) = (&self.words[engine::SPARE], &self.before[engine::SPARE]);
+        same("spare words", spare, before)?;
         let behind = &self.words[engine::VENUE_WORDS..];
         let noise = &self.noise[engine::VENUE_WORDS..];
         same("words behind the venue", behind, noise)
+    }
+
+    /// The words in which prices are kept, used or not, are those from before the call.
+    pub fn compare_kept_prices(&self) -> Result<(), Fault> {
+        let mut places = engine::KEPT_PRICES;
+        let differing = places.find(|&at| self.words[at] != self.before[at]);
+        same("a word of the kept prices", differing, None)
     }
 
     /// The engine's words here mean the same venue as those after the whole
@@ -160,19 +168,19 @@ impl Sides {
         if found == expected {
             return Ok(());
         }
-        // Where the counts of orders are the same, so are the lengths.
-        let mut pairs = found.iter().zip(expected).enumerate();
+        // Where the counts are the same, so are the lengths.
+        let mut pairs = found.iter().zip(&expected).enumerate();
         let differing = pairs.find(|(_, (found, expected))| found != expected);
         let (at, (found, expected)) = differing.expect("a word that differs");
         Err(format!(
-            "word {at} of the venue: {way} {found}, whole {expected}"
+            "word {at} of those in use: {way} {found}, whole {expected}"
         ))
     }
 
     /// Makes the words now and then something that is no venue record.
     fn spoil(&mut self, rng: &mut Rng) {
         let len = self.venue.orders.len();
-        match rng.up_to(39) {
+        match rng.up_to(41) {
             0..3 if len > 0 => {
                 let flag = engine::flag_at(rng.place(len), rng.place(engine::FLAGS));
                 self.words[flag] = rng.pick(&[2, 3, 256, u32::MAX]);
@@ -182,6 +190,10 @@ impl Sides {
             5 => {
                 let others = [0, engine::LAYOUT - 1, engine::LAYOUT + 1, u32::MAX];
                 self.words[engine::LAYOUT_AT] = rng.pick(&others);
+            }
+            6..8 => {
+                let counts = [513, 1_024, 1 << 16, 1 << 31, u32::MAX];
+                self.words[engine::KEPT_COUNT_AT] = rng.pick(&counts);
             }
             _ => return,
         }

@@ -7,18 +7,21 @@ use crate::ladder::Ladder;
 use crate::made_up::{made_up, put_on_one_side, sink_shorts, spoil_record};
 use crate::meetings::meet_own;
 use crate::model::{
-    read_record, write_number, write_record, Entry, Event, RecordCheck, Venue, CENT, DOLLAR,
-    HALF_CENT, LEAST_BUFFER, LONGEST_NUMBER, LOWEST, MOST_EVENTS, MOST_SHARES, PLACES, SHORT,
+    read_record, write_number, write_record, Entry, Event, RecordCheck, TimedPrice, Venue, CENT,
+    DOLLAR, HALF_CENT, LEAST_BUFFER, LONGEST_NUMBER, LOWEST, MOST_EVENTS, MOST_KEPT, MOST_SHARES,
+    PLACES, SHORT,
 };
 use crate::odd::{near_miss, odd_code, odd_number, odd_owner};
 use crate::rng::Rng;
 use crate::slid_events::slide_again;
+use crate::timed_events::{fill_watch, timed, MINUTES, SECONDS, STILL};
 
 /// At which step and where a session trades, how far from there, and how often
 /// in a hundred events something other than an entry comes; how many of a hundred
 /// entries are market orders, and how many of twenty bids are none or the lowest;
-/// and whose the orders are. In a slump days are short and most tape prices are around
-/// the trigger.
+/// whose the orders are; how many of a hundred events are timed prices, how many of a hundred
+/// of these are around a tenth from another, and how their times go on. In a slump days are
+/// short and most tape prices are around the trigger.
 pub struct Market {
     pub ladder: Ladder,
     pub centre: u32,
@@ -33,6 +36,9 @@ pub struct Market {
     lowest_bids: u32,
     slump: bool,
     firms: &'static [u32],
+    timed: u32,
+    pub swings: u32,
+    pub seconds: &'static [u32],
 }
 
 /// How often each mark comes: mixed, mostly shorts, hardly any short.
@@ -76,6 +82,9 @@ impl Market {
             firms: rng.pick(&[
                 NO_FIRMS, FEW_FIRMS, FEW_FIRMS, FEW_FIRMS, ONE_FIRM, BY_BYTES,
             ]),
+            timed: rng.pick(&[0, 5, 10, 30]),
+            swings: rng.pick(&[2, 20, 60]),
+            seconds: rng.pick(&[STILL, SECONDS, MINUTES]),
         }
     }
 
@@ -95,6 +104,9 @@ impl Market {
             lowest_bids: 0,
             slump: false,
             firms: NO_FIRMS,
+            timed: 0,
+            swings: 0,
+            seconds: STILL,
         }
     }
 
@@ -107,11 +119,15 @@ impl Market {
         self.ladder.near(rng, self.centre, 2 * self.reach)
     }
 
-    /// An event that makes sense for the venue as it stands.
+    /// An event that makes sense for the venue as it stands. Without timed prices nothing is
+    /// drawn for them, so that the benchmark's streams stay as they were.
     fn event(&self, rng: &mut Rng, venue: &Venue) -> Event {
         if self.ends_day(rng, venue) {
             let price = self.next_close(rng, venue);
             return Event::DayEnd { price };
+        }
+        if self.timed > 0 && rng.up_to(99) < self.timed {
+            return timed(rng, self, venue);
         }
         let drawn = rng.up_to(99);
         if drawn < self.cancels && !venue.orders.is_empty() {
@@ -236,11 +252,15 @@ fn nonsense(rng: &mut Rng, sound: Event, venue: &Venue) -> Event {
     let odd = odd_number(rng);
     match (sound, rng.up_to(9)) {
         (_, 0) => Event::Cancel { id: odd },
-        (_, 1) => rng.pick(&[
-            Event::Bid { price: odd },
-            Event::Tape { price: odd },
-            Event::DayEnd { price: odd },
-        ]),
+        (_, 1) => {
+            let timed = odd_timed(rng, venue, odd);
+            rng.pick(&[
+                Event::Bid { price: odd },
+                Event::Tape { price: odd },
+                Event::DayEnd { price: odd },
+                timed,
+            ])
+        }
         (Event::Entry(_), 2) => Event::Entry(Entry {
             id: odd_number(rng),
             mark: odd_number(rng),
@@ -256,6 +276,16 @@ fn nonsense(rng: &mut Rng, sound: Event, venue: &Venue) -> Event {
         (Event::Entry(entry), _) => Event::Entry(spoil_entry(rng, entry, odd, venue)),
         (sound, _) => sound,
     }
+}
+
+/// A timed price with an odd price, and with a time that stands still or that is odd, at
+/// which it may drop what is kept or come too early.
+fn odd_timed(rng: &mut Rng, venue: &Venue, price: u32) -> Event {
+    let last = venue.kept.last().map_or(0, |last| last.time);
+    let (early, late) = (last.saturating_sub(1), last.saturating_add(301));
+    let any = rng.word();
+    let time = rng.pick(&[last, early, late, late, any]);
+    Event::Timed(TimedPrice { time, price })
 }
 
 /// An event with its price moved a little; a cancel has none.
@@ -275,6 +305,10 @@ fn miss(rng: &mut Rng, event: Event) -> Event {
         Event::DayEnd { price } => Event::DayEnd {
             price: near_miss(rng, price),
         },
+        Event::Timed(TimedPrice { time, price }) => Event::Timed(TimedPrice {
+            time,
+            price: near_miss(rng, price),
+        }),
     }
 }
 
@@ -340,7 +374,10 @@ fn damage(rng: &mut Rng, bytes: &mut Vec<u8>) {
     match rng.up_to(15) {
         0 => bytes.truncate(at),
         1..4 => bytes[at] ^= 1 << rng.up_to(7),
-        4..7 => bytes[at] = rng.word() as u8,
+        4..7 => {
+            let any = rng.word() as u8;
+            bytes[at] = rng.pick(&[any, any, 7, 8]);
+        }
         7..9 => drop(bytes.remove(at)),
         9..11 => bytes.insert(at, rng.word() as u8),
         11..14 => {
@@ -361,7 +398,7 @@ fn damage(rng: &mut Rng, bytes: &mut Vec<u8>) {
 fn break_off(rng: &mut Rng, bytes: &mut Vec<u8>) {
     let mut number = large_number(rng);
     number.truncate(rng.place(number.len()));
-    bytes.push(rng.between(1, 6) as u8);
+    bytes.push(rng.between(1, 8) as u8);
     bytes.append(&mut number);
 }
 
@@ -398,10 +435,10 @@ impl Kind {
 
     fn random(rng: &mut Rng) -> Self {
         match rng.up_to(99) {
-            0..10 => Kind::Sound,
-            10..18 => Kind::Nonsense,
-            18..33 => Kind::Damaged,
-            33..70 => Kind::MadeUp,
+            0..9 => Kind::Sound,
+            9..16 => Kind::Nonsense,
+            16..26 => Kind::Damaged,
+            26..62 => Kind::MadeUp,
             _ => Kind::Spoilt,
         }
     }
@@ -426,6 +463,8 @@ pub struct Session {
     market: Market,
     /// Whether the book is filled up and kept so.
     keeps_full: bool,
+    /// For how many events the kept prices are.
+    fills_watch: u32,
     left: u32,
     bytes: Vec<u8>,
     at: usize,
@@ -437,10 +476,13 @@ const EVENTS_A_MEETING: u32 = 12;
 
 /// Of so many events from open where a short slides, on average, one is made so that it
 /// slides again.
-const EVENTS_A_SLIDE: u32 = 8;
+const EVENTS_A_SLIDE: u32 = 5;
 
 /// A session from open with more events than this may fill its book up.
 const LONG: u32 = 2 * PLACES as u32;
+
+/// And one may fill its kept prices up for so many events, and then go on.
+const LONG_WATCH: u32 = MOST_KEPT as u32 + 200;
 
 /// The longest buffer that a call lends, longer than any event may need.
 pub const MOST_BUFFER: usize = LEAST_BUFFER + 4_096;
@@ -450,7 +492,7 @@ impl Session {
         let mut rng = Rng::new(seed);
         let market = Market::random(&mut rng);
         let kind = Kind::random(&mut rng);
-        let long = rng.pick(&[50, 400, 1_500]);
+        let long = rng.pick(&[50, 400, 1_000]);
         let (start, left, bytes) = match kind {
             Kind::Sound => (market.open(&mut rng), long, Vec::new()),
             Kind::Nonsense => (market.open(&mut rng), long / 2, Vec::new()),
@@ -469,18 +511,16 @@ impl Session {
                 (venue, rng.between(1, 4), Vec::new())
             }
         };
-        let keeps_full = match kind {
-            Kind::Sound | Kind::Nonsense if market.slump => false,
-            Kind::Sound | Kind::Nonsense => left > LONG && rng.one_in(2),
-            Kind::Damaged => false,
-            Kind::MadeUp | Kind::Spoilt => is_near_full(&start),
-        };
+        let keeps_full = keeps_full(&mut rng, kind, &market, left, &start);
+        let free = left > LONG && market.quiet_days > 60 && !keeps_full;
+        let fills_watch = fills_watch(&mut rng, kind, free, &start);
         Session {
             kind,
             start,
             rng,
             market,
             keeps_full,
+            fills_watch,
             left,
             bytes,
             at: 0,
@@ -509,7 +549,21 @@ impl Session {
         })
     }
 
+    /// Where the kept prices are filled up, mostly one that does so, and no other that is timed.
     fn event(&mut self, venue: &Venue) -> Event {
+        let event = self.any_event(venue);
+        if self.fills_watch == 0 {
+            return event;
+        }
+        self.fills_watch -= 1;
+        match event {
+            Event::Timed(_) => fill_watch(&mut self.rng, &self.market, venue),
+            _ if self.rng.one_in(8) => event,
+            _ => fill_watch(&mut self.rng, &self.market, venue),
+        }
+    }
+
+    fn any_event(&mut self, venue: &Venue) -> Event {
         // A full book is one for few events, and codes are looked at before it.
         let full = venue.orders.len() == PLACES && self.kind != Kind::Sound;
         if full && self.rng.one_in(4) {
@@ -521,8 +575,12 @@ impl Session {
         let untouched = venue.accepted == self.start.accepted;
         let seldom = if self.keeps_full { 4 } else { 2 };
         if venue.phase == 2 && untouched && self.rng.one_in(seldom) {
-            let price = self.market.ladder.near_trigger(&mut self.rng, venue.close);
-            return Event::Tape { price };
+            return near_fall(&mut self.rng, &self.market, venue);
+        }
+        // Later, times may have dropped what a made-up record keeps.
+        let keeps = untouched && !venue.kept.is_empty();
+        if keeps && self.rng.one_in(4) {
+            return timed(&mut self.rng, &self.market, venue);
         }
         if self.keeps_full {
             if let Some(event) = near_full(&mut self.rng, &self.market, venue) {
@@ -587,6 +645,39 @@ fn made_up_start(rng: &mut Rng, market: &Market) -> (Venue, u32) {
     }
     let most = if has_numbers_left(&venue) { 240 } else { 60 };
     (venue, most)
+}
+
+/// Whether a session of so many events fills its book up and keeps it so.
+fn keeps_full(rng: &mut Rng, kind: Kind, market: &Market, events: u32, start: &Venue) -> bool {
+    match kind {
+        Kind::Sound | Kind::Nonsense if market.slump => false,
+        Kind::Sound | Kind::Nonsense => events > LONG && rng.one_in(2),
+        Kind::Damaged => false,
+        Kind::MadeUp | Kind::Spoilt => is_near_full(start),
+    }
+}
+
+/// For how many of its events a session fills its kept prices up: long ones from open that
+/// are free to, and made-up records that have nearly as many as there may be.
+fn fills_watch(rng: &mut Rng, kind: Kind, free: bool, start: &Venue) -> u32 {
+    let near_full = start.kept.len() + 1 >= MOST_KEPT;
+    match kind {
+        Kind::Sound if free => LONG_WATCH,
+        Kind::MadeUp | Kind::Spoilt if near_full && is_near_full(start) => rng.up_to(20),
+        Kind::MadeUp | Kind::Spoilt if near_full => rng.between(5, 60),
+        _ => 0,
+    }
+}
+
+/// A tape price around the trigger, with a time or without.
+fn near_fall(rng: &mut Rng, market: &Market, venue: &Venue) -> Event {
+    let price = market.ladder.near_trigger(rng, venue.close);
+    match timed(rng, market, venue) {
+        Event::Timed(TimedPrice { time, .. }) if market.timed > 0 && rng.one_in(2) => {
+            Event::Timed(TimedPrice { time, price })
+        }
+        _ => Event::Tape { price },
+    }
 }
 
 /// Whether at most one place is left.
@@ -695,6 +786,45 @@ pub fn trace(step: u32, seed: u64, resting: usize, events: usize) -> Trace {
         mean_resting: sum_resting as f64 / events as f64,
         bytes,
         ends,
+    }
+}
+
+/// The same stream, with as many kept prices as there may be from its start on, which no
+/// event of it touches.
+pub fn trace_with_kept(step: u32, seed: u64, resting: usize, events: usize) -> Trace {
+    let mut trace = trace(step, seed, resting, events);
+    let mut rng = Rng::new(seed);
+    let market = Market::steady(Ladder { step });
+    let kept = (0..MOST_KEPT).map(|number| steady_price(&mut rng, &market, number));
+    trace.start.kept = kept.collect();
+    trace
+}
+
+/// Timed prices on the same book, so fast that about as many are kept as there may be, and as
+/// many dropped as come. None is a tenth from another, so all that are kept are looked at.
+pub fn timed_trace(step: u32, seed: u64, resting: usize, events: usize) -> Trace {
+    let mut rng = Rng::new(seed);
+    let market = Market::steady(Ladder { step });
+    let Trace { start, .. } = trace_with_kept(step, seed, resting, 1);
+    let (mut bytes, mut ends) = (Vec::new(), Vec::new());
+    for number in 0..events {
+        let new = steady_price(&mut rng, &market, MOST_KEPT + number);
+        push_record(&mut bytes, &Event::Timed(new));
+        ends.push(bytes.len());
+    }
+    Trace {
+        mean_resting: start.orders.len() as f64,
+        start,
+        bytes,
+        ends,
+    }
+}
+
+/// A price around the centre, 512 in 301 seconds.
+fn steady_price(rng: &mut Rng, market: &Market, number: usize) -> TimedPrice {
+    TimedPrice {
+        time: (number * 301 / MOST_KEPT) as u32,
+        price: market.ladder.near(rng, market.centre, market.reach),
     }
 }
 

@@ -177,7 +177,7 @@ impl Turn<'_> {
 /// A count of turns, and the line that it stands in.
 type Kind = (&'static str, &'static str, fn(&Turn) -> bool);
 
-const KINDS: [Kind; 49] = [
+const KINDS: [Kind; 50] = [
     (OWNED, "buys", |turn| {
         is_owned(turn, |entry| entry.mark == BUY)
     }),
@@ -226,6 +226,9 @@ const KINDS: [Kind; 49] = [
     }),
     (GONE, "in the pass of a tape price", |turn| {
         turn.withdraws() && matches!(turn.event, Event::Tape { .. })
+    }),
+    (GONE, "in that of a timed price", |turn| {
+        turn.withdraws() && matches!(turn.event, Event::Timed(_))
     }),
     (GONE, "from open at an entry", |turn| {
         turn.withdraws() && turn.from_open && turn.is_entry()

@@ -1,6 +1,7 @@
 //! "The seven-bit form": numbers, event records and reports.
 
 use super::fill::Question;
+use super::pauses::TimedPrice;
 use super::Refusal;
 
 /// The longest number, 2^64 - 1, has ten groups of seven bits.
@@ -144,7 +145,8 @@ impl Entry {
 }
 
 /// "kind 1 entry (fields as listed), 2 cancel (id), 3 bid, 4 tape, 5 day end
-/// (price)", and "Event kind 6 is an entry with an owner".
+/// (price)", "Event kind 6 is an entry with an owner", and kind 7 "carries a time in whole
+/// seconds and a tape price".
 #[derive(Clone, Copy, Debug, PartialEq, Eq)]
 pub enum Event {
     Entry(Entry),
@@ -152,6 +154,7 @@ pub enum Event {
     Bid { price: u32 },
     Tape { price: u32 },
     DayEnd { price: u32 },
+    Timed(TimedPrice),
 }
 
 /// The numbers of a record or a report: kind first, then the fields.
@@ -193,6 +196,7 @@ impl Event {
             Event::Bid { price } => Numbers::new([3, price]),
             Event::Tape { price } => Numbers::new([4, price]),
             Event::DayEnd { price } => Numbers::new([5, price]),
+            Event::Timed(TimedPrice { time, price }) => Numbers::new([7, time, price]),
         }
     }
 }
@@ -208,6 +212,10 @@ pub fn read_record(bytes: &[u8], at: usize) -> Result<(Event, usize), Refusal> {
     if kind == 6 {
         let (fields, end) = read_fields(bytes, at)?;
         return Ok((Event::Entry(Entry::with_owner(fields)), end));
+    }
+    if kind == 7 {
+        let ([time, price], end) = read_fields(bytes, at)?;
+        return Ok((Event::Timed(TimedPrice { time, price }), end));
     }
     let of_field = match kind {
         2 => |id| Event::Cancel { id },
@@ -259,6 +267,10 @@ pub enum Report {
     DayEnded {
         phase: u32,
     },
+    Pause {
+        direction: u32,
+        price: u32,
+    },
 }
 
 impl Report {
@@ -276,6 +288,7 @@ impl Report {
             Report::Repriced { id, price, stamp } => Numbers::new([4, id, price, stamp]),
             Report::RestrictionOn => Numbers::new([5]),
             Report::DayEnded { phase } => Numbers::new([6, phase]),
+            Report::Pause { direction, price } => Numbers::new([7, direction, price]),
         }
     }
 
@@ -306,6 +319,10 @@ impl Report {
             }),
             5 => Ok((Report::RestrictionOn, at)),
             6 => read_fields(bytes, at).map(|([phase], end)| (Report::DayEnded { phase }, end)),
+            7 => read_fields(bytes, at).map(|([direction, price], end)| {
+                let report = Report::Pause { direction, price };
+                (report, end)
+            }),
             _ => Err(Refusal::Kind),
         }
     }
@@ -439,7 +456,7 @@ mod tests {
 
     #[test]
     fn records_are_judged_left_to_right() {
-        let cases: [(&[u8], Refusal); 12] = [
+        let cases: [(&[u8], Refusal); 19] = [
             (&[0x80, 0x80, 0x80, 0x80, 0x10], Kind),
             (&[3, 0xFF, 0xFF, 0xFF, 0xFF, 0xFF], MissingByte),
             (&[0], Kind),
@@ -453,7 +470,14 @@ mod tests {
                 &[6, 1, 0, 9, 5, 1, 0, 0, 0x80, 0x80, 0x80, 0x80, 0x10],
                 LargeField,
             ),
-            (&[7, 1, 0, 9, 5, 1, 0, 0, 1], Kind),
+            (&[7], MissingByte),
+            (&[7, 1], MissingByte),
+            (&[7, 0x80, 0, 9], BadNumber),
+            (&[7, 1, 0x80, 0], BadNumber),
+            (&[7, 0x80, 0x80, 0x80, 0x80, 0x10, 0x80, 0], LargeField),
+            (&[7, 1, 0x80, 0x80, 0x80, 0x80, 0x10], LargeField),
+            (&[8, 1, 0, 9, 5, 1, 0, 0, 1], Kind),
+            (&[0x87, 0], BadNumber),
             (&[0x86, 0], BadNumber),
         ];
         for (bytes, refusal) in cases {
@@ -515,6 +539,30 @@ mod tests {
         Event::Entry(Entry::with_owner(fields))
     }
 
+    fn timed(time: u32, price: u32) -> Event {
+        Event::Timed(TimedPrice { time, price })
+    }
+
+    /// "Fields of kind 7: time, price. Of report 7: direction, price. Time is any 32-bit
+    /// number." (F10.1)
+    #[test]
+    fn a_timed_price_has_its_time_first() {
+        assert_eq!(read_record(&[7, 5, 9, 1], 0), Ok((timed(5, 9), 3)));
+        for time in [0, 300, u32::MAX] {
+            let mut bytes = [8; 12];
+            let end = write_record(&mut bytes, 1, &timed(time, 0)).expect("room");
+            assert_eq!((bytes[0], bytes[1], bytes[end - 1]), (8, 7, 0));
+            assert!(bytes[end..].iter().all(|&byte| byte == 8));
+            assert_eq!(read_record(&bytes, 1), Ok((timed(time, 0), end)));
+        }
+        let (direction, price) = (1, 90_000);
+        let pause = Report::Pause { direction, price };
+        assert_eq!(Report::read(&[7, 1, 0x90, 0xBF, 5, 5], 0), Ok((pause, 5)));
+        assert_eq!(pause.numbers().as_slice(), [7, 1, 90_000]);
+        assert_eq!(Report::read(&[7, 1], 0), Err(MissingByte));
+        assert_eq!(Report::read(&[8, 1, 1], 0), Err(Kind));
+    }
+
     /// The least and the greatest fields of 1 to 5 bytes. The writer doesn't judge
     /// fields (A9).
     #[test]
@@ -530,6 +578,7 @@ mod tests {
             for field in fields {
                 just_fits(Event::Cancel { id: field }, 1 + count);
                 just_fits(Event::DayEnd { price: field }, 1 + count);
+                just_fits(timed(field, field), 1 + 2 * count);
                 just_fits(entry([field; 7]), 1 + 7 * count);
                 just_fits(owned([field; 8]), 1 + 8 * count);
             }
@@ -537,6 +586,7 @@ mod tests {
         let [one, two, three, four, five] = fields.map(|[least, _]| least);
         let all = entry([five, one, four, three, two, one, two]);
         just_fits(all, 1 + 5 + 1 + 4 + 3 + 2 + 1 + 2);
+        just_fits(timed(five, two), 1 + 5 + 2);
         let all = owned([five, one, four, three, two, one, two, three]);
         just_fits(all, 1 + 5 + 1 + 4 + 3 + 2 + 1 + 2 + 3);
     }

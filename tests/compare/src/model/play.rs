@@ -207,6 +207,20 @@ mod tests {
         assert_eq!(lent.venue, Venue::fresh(100, 100_000));
     }
 
+    /// 512 timed prices of second 1, of which the first turns the restriction on; then one
+    /// more, one of second 0, and one that is no price: 23, 22 and 3.
+    #[test]
+    fn refused_timed_prices_in_one_call() {
+        let mut records = [7, 1, 9].repeat(513);
+        records.extend([7, 0, 9, 7, 0, 0]);
+        let mut lent = Lent::new(7 + LEAST_BUFFER, 515);
+        assert_eq!(lent.play(&records, 0), Ok(Stop::RecordsEnd));
+        assert_eq!(lent.reports[..7], [5, 0, 23, 0, 22, 0, 3]);
+        assert_eq!(lent.ends[..512], [1; 512]);
+        assert_eq!(lent.ends[512..], [3, 5, 7]);
+        assert_eq!((lent.venue.accepted, lent.venue.kept.len()), (512, 512));
+    }
+
     #[test]
     fn stops_where_no_place_for_an_end_is_left() {
         for ends in 0..9 {
@@ -239,10 +253,11 @@ mod tests {
 
     #[test]
     fn stops_at_a_record_that_cannot_be_read() {
-        let cases: [(&[u8], Refusal); 4] = [
+        let cases: [(&[u8], Refusal); 5] = [
             (&[3, 0xF8, 0xC6], Refusal::MissingByte),
+            (&[7, 1], Refusal::MissingByte),
             (&[3, 0x80, 0], Refusal::BadNumber),
-            (&[7, 1], Refusal::Kind),
+            (&[8, 1], Refusal::Kind),
             (&[2, 0x80, 0x80, 0x80, 0x80, 0x10], Refusal::LargeField),
         ];
         for (record, refusal) in cases {

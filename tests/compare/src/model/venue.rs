@@ -1,5 +1,5 @@
 //! The venue: open, the record check, the refusals in their order and the
-//! six kinds of event.
+//! seven kinds of event.
 
 use super::book::{
     best_opposite, is_slide, suits_mark, Order, BUY, CONTINUOUS, DISPLAYED, HIGHEST_MARK,
@@ -7,6 +7,7 @@ use super::book::{
 };
 use super::fill::Question;
 use super::form::{Entry, Event, Report, ReportWriter};
+use super::pauses::{are_sound, direction_of, dropped_at, TimedPrice, MOST_KEPT};
 use super::prices::{is_bid, is_legal, is_step, permitted, phase_after_day_end, phase_after_tape};
 use super::Refusal;
 
@@ -34,7 +35,7 @@ pub enum RecordCheck {
     Skipped,
 }
 
-/// The venue record; orders in rising id.
+/// The venue record; orders in rising id, kept prices oldest first.
 #[derive(Clone, Debug, PartialEq, Eq)]
 pub struct Venue {
     pub step: u32,
@@ -45,6 +46,7 @@ pub struct Venue {
     pub last_stamp: u32,
     pub accepted: u32,
     pub orders: Vec<Order>,
+    pub kept: Vec<TimedPrice>,
 }
 
 /// What the pass does to an order.
@@ -77,6 +79,7 @@ impl Venue {
             last_stamp: 0,
             accepted: 0,
             orders: Vec::with_capacity(PLACES),
+            kept: Vec::with_capacity(MOST_KEPT),
         }
     }
 
@@ -94,6 +97,7 @@ impl Venue {
             && self.ids_rise()
             && self.orders.iter().all(|order| order.is_sound(self.step))
             && self.stamps_differ()
+            && are_sound(&self.kept, self.step)
     }
 
     /// "ids rising, from 1 to the last id"
@@ -136,32 +140,42 @@ impl Venue {
     ) -> Result<usize, Refusal> {
         self.refuse_any(buffer.len(), check)?;
         let mut reports = ReportWriter::new(buffer);
+        self.take(event, &mut reports)?;
+        self.accepted += 1;
+        Ok(reports.byte_count())
+    }
+
+    /// The kind's own refusals, then what the event does.
+    fn take(&mut self, event: &Event, reports: &mut ReportWriter) -> Result<(), Refusal> {
         match *event {
             Event::Entry(entry) => {
                 self.refuse_entry(&entry)?;
-                self.enter(&entry, &mut reports);
+                self.enter(&entry, reports);
             }
             Event::Cancel { id } => {
                 let at = self.find(id).ok_or(Refusal::NotResting)?;
-                self.cancel(at, ASKED_FOR, &mut reports);
+                self.cancel(at, ASKED_FOR, reports);
             }
             Event::Bid { price } => {
                 refuse_unless(is_bid(self.step, price), Refusal::Price)?;
                 self.bid = price;
-                self.pass(&mut reports);
+                self.pass(reports);
             }
             Event::Tape { price } => {
                 refuse_unless(is_legal(self.step, price), Refusal::Price)?;
-                self.print(price, &mut reports);
-                self.pass(&mut reports);
+                self.print(price, reports);
             }
             Event::DayEnd { price } => {
                 refuse_unless(is_legal(self.step, price), Refusal::Price)?;
-                self.end_day(price, &mut reports);
+                self.end_day(price, reports);
+            }
+            Event::Timed(new) => {
+                let dropped = self.refuse_timed(&new)?;
+                self.keep(new, dropped, reports);
+                self.print(new.price, reports);
             }
         }
-        self.accepted += 1;
-        Ok(reports.byte_count())
+        Ok(())
     }
 
     /// "Event (all kinds): 16 if the venue record breaks a condition", "Then 1
@@ -340,14 +354,39 @@ impl Venue {
         }
     }
 
-    /// The tape price's own work, before the pass: "5 restriction on, before
-    /// the pass" when it changes the phase, from 0 or, No. 6, from 2 to 1 (B3).
+    /// "Checked after the price: time before the last one of the day is 22, and a 513th kept
+    /// price is 23." The last one of the day is always the last kept one, and 23 is judged
+    /// after leaving out what the new time drops (F10.3). Gives how many that are.
+    fn refuse_timed(&self, new: &TimedPrice) -> Result<usize, Refusal> {
+        refuse_unless(is_legal(self.step, new.price), Refusal::Price)?;
+        let falls = self.kept.last().is_some_and(|last| new.time < last.time);
+        refuse_unless(!falls, Refusal::Time)?;
+        let dropped = dropped_at(&self.kept, new.time);
+        let room = self.kept.len() - dropped < MOST_KEPT;
+        refuse_unless(room, Refusal::KeptPrices)?;
+        Ok(dropped)
+    }
+
+    /// Report 7, if any, by the kept prices of the day before the new one, which isn't
+    /// compared with itself (F10.2). "It comes before the restriction's report."
+    fn keep(&mut self, new: TimedPrice, dropped: usize, reports: &mut ReportWriter) {
+        self.kept.drain(..dropped);
+        if let Some(direction) = direction_of(&self.kept, new.price) {
+            let price = new.price;
+            reports.put(Report::Pause { direction, price });
+        }
+        self.kept.push(new);
+    }
+
+    /// What a tape price does: "5 restriction on, before the pass" when it changes
+    /// the phase, from 0 or, No. 6, from 2 to 1 (B3); then the pass.
     fn print(&mut self, price: u32, reports: &mut ReportWriter) {
         let phase = phase_after_tape(self.phase, self.close, price);
         if phase != self.phase {
             self.phase = phase;
             reports.put(Report::RestrictionOn);
         }
+        self.pass(reports);
     }
 
     /// "The pass runs after each accepted bid or tape event, over the orders
@@ -441,10 +480,12 @@ impl Venue {
     }
 
     /// "A day end sets the close, sets bid 0 and cancels every order, lowest id
-    /// first (cause 4)." "6 day ended, last: new phase."
+    /// first (cause 4)." "6 day ended, last: new phase." And "a day end empties the kept
+    /// prices".
     fn end_day(&mut self, close: u32, reports: &mut ReportWriter) {
         self.close = close;
         self.bid = 0;
+        self.kept.clear();
         self.phase = phase_after_day_end(self.phase);
         for order in self.orders.drain(..) {
             reports.put(cancelled(&order, DAY_END));
