@@ -9,6 +9,7 @@ use book::Position;
 use book::place;
 use book::search;
 use book::words;
+use numbers::sizes;
 use prices::restriction;
 ghost use mathlib.Core.Path.{_≡_};
 ghost use Prim.Native.Nat.{_+_, _<_};
@@ -50,7 +51,7 @@ fn slide_once(m: Market, o: Order) -> Move
     if o.used {
         return Move::Stay;
     }
-    let price = working::larger(o.limit, o.entry_bid);
+    let price = sizes::larger(o.limit, o.entry_bid);
     if m.bid < price {
         return move_down(price, true, o);
     }
@@ -64,7 +65,7 @@ fn slide_down(m: Market, o: Order) -> Move
 {
     if o.slide == 0 {
         return move_down(
-            working::larger(o.limit, working::permitted_now(m)),
+            sizes::larger(o.limit, working::permitted_now(m)),
             o.used,
             o,
         );

@@ -10,11 +10,12 @@ use book::place;
 use book::priority;
 use book::trade;
 use book::words;
+use numbers::sizes;
 use prices::Price;
 use prices::increments;
 use prices::restriction;
 ghost use mathlib.Core.Path.{_≡_};
-ghost use Prim.Native.Nat.{_+_, _<_, _≤_, min, max};
+ghost use Prim.Native.Nat.{_+_, _<_, _≤_};
 ghost use mathlib.Core.List.{[], _∷_};
 ghost use lib.Dec.{T};
 ghost use lib.ListN.{length, getD};
@@ -37,24 +38,6 @@ const IMMEDIATE_OR_CANCEL: u32 = 2;
 pub(crate) const OPT_OUT: u32 = 3;
 
 const SAME_FIRM: u32 = 5;
-
-fn smaller(a: u32, b: u32) -> u32
-    ensures { λ r. ⌜ r ≡ min a b ⌝ }
-{
-    if a <= b {
-        return a;
-    }
-    b
-}
-
-pub(crate) fn larger(a: u32, b: u32) -> u32
-    ensures { λ r. ⌜ r ≡ max a b ⌝ }
-{
-    if a <= b {
-        return b;
-    }
-    a
-}
 
 // Whether an order of a mark is restricted.
 pub(crate) fn restricted(m: Market, mark: u32) -> bool
@@ -119,7 +102,7 @@ fn working_price(m: Market, mark: u32, price: u32) -> u32
 {
     let limit = limit_of(mark, price);
     if restricted(m, mark) {
-        return larger(limit, permitted_now(m));
+        return sizes::larger(limit, permitted_now(m));
     }
     limit
 }
@@ -181,7 +164,7 @@ fn trade_with(w: &mut [u32], reports: &mut [u8], at: usize, o: Order, i: usize) 
     ensures { λ r. ⌜ Meets (now (w .entry)) (now (w .exit)) (now (reports .entry)) (now (reports .exit)) at (Matching.trading o (getD (resting (now (w .entry))) i emptyOrder) (resting (now (w .entry)))) (r .left) (r .end) ⌝ }
 {
     let x = words::load(w, i);
-    let q = smaller(o.shares, x.shares);
+    let q = sizes::smaller(o.shares, x.shares);
     let end = write_execution(reports, at, o, x, q);
     trade::trade(w, i, q);
     let left = trade::reduce(o, q);

@@ -1,6 +1,7 @@
-// Numbers in the seven-bit form: the lowest layer.
+// Numbers in the seven-bit form, and their sizes: the lowest layer.
 mod count;
 pub mod read;
+pub mod sizes;
 pub mod write;
 
 // What a byte is as a group of a number: one with more groups behind it, the last one, or none that is allowed there.

@@ -1,5 +1,5 @@
 -- Laws of kept prices in words: what stands at a position, words moved down, and a new price behind the others. Assumes nothing.
-use Prim.Native.Nat.{ℕ, zero, suc, _+_, _-_, _*_, _≤_, _<_}
+use Prim.Native.Nat.{ℕ, zero, suc, _+_, _-_, _*_, _≤_, _<_, min, max}
 use native.Mathlib.Nat.{le-of-suc-le-suc, not-suc-le-zero, sub-zero, suc-sub-suc}
 use native.Mathlib.Numerals.{add-one}
 use native.Mathlib.Omega.{arith}
@@ -11,7 +11,7 @@ use Rattle.numbers.specs.Lists.{tabulate}
 use Rattle.numbers.proofs.TabulateLaws.{by-order, length-tabulate, getD-tabulate, tabulate-ext}
 use Rattle.prices.specs.declared.TimedPrice.{TimedPrice}
 use Rattle.prices.specs.Pause.{mostKept, firstTime, lastTimeFrom, lastTime}
-use Rattle.prices.specs.KeptWords.{keptWords, priceAt, keptIn, MovedDown, KeepsNew}
+use Rattle.prices.specs.KeptWords.{keptWords, priceAt, keptIn, highestOf, lowestOf, MovedDown, KeepsNew}
 
 -- tabulated lists from a position on, and with one more at the end
 
@@ -59,6 +59,14 @@ kept-next w at n i h =
 
 pub kept-over : (w : List ℕ) (at n i : ℕ) → n ≤ i → drop i (keptIn w at n) ≡ []
 kept-over w at n i h = drop-of-length-le (keptIn w at n) {i = i} (omega (arith, kept-length w at n))
+
+-- the range with one price more
+
+pub lowest-next : (w : List ℕ) (at n i k : ℕ) {m p : ℕ} → i < n → p ≡ priceAt w at i .price → m ≡ min k p → lowestOf m (drop (i + 1) (keptIn w at n)) ≡ lowestOf k (drop i (keptIn w at n))
+lowest-next w at n i k h e q = rw (q, e) (sym (ap (lowestOf k) (kept-next w at n i h)))
+
+pub highest-next : (w : List ℕ) (at n i k : ℕ) {m p : ℕ} → i < n → p ≡ priceAt w at i .price → m ≡ max k p → highestOf m (drop (i + 1) (keptIn w at n)) ≡ highestOf k (drop i (keptIn w at n))
+highest-next w at n i k h e q = rw (q, e) (sym (ap (highestOf k) (kept-next w at n i h)))
 
 -- the first and the last
 

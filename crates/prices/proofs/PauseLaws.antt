@@ -1,17 +1,20 @@
 -- Laws of timed prices: those that a new time keeps, their order, the conditions of a venue record, and the direction of a price. Assumes nothing.
-use Prim.Native.Nat.{ℕ, suc, _-_, _*_, _≤_, _<_, zero-le}
+use Prim.Native.Nat.{ℕ, suc, _-_, _*_, _≤_, _<_, zero-le, min, max}
 use native.Mathlib.Omega.{arith}
+use native.Mathlib.Decide.{decLe}
 use mathlib.Core.Path.{_≡_, refl, sym, ap, _∙_}
-use mathlib.Core.Bool.{Bool, true, false, not, _&&_, _||_}
+use mathlib.Core.Bool.{Bool, true, false, not, _&&_, _||_, or-false}
 use mathlib.Core.List.{List, [], _∷_, _++_}
+use mathlib.Core.Logic.{inl, inr}
 use lib.Dec.{T, leb, leb→le, le→leb}
 use lib.ListN.{length, length-append}
 use borrow.Author.Tests.{le-leb, lt-leb}
 use Rattle.numbers.specs.Tests.{pick, every, any, All}
-use Rattle.numbers.proofs.TestLaws.{by-test, pick-yes, and-T, T-and, conj-T, T-conj, every-T, T-every, all-append, and-yes, and-no, and-false, and-last, not-yes, not-no, tests}
+use Rattle.numbers.proofs.TestLaws.{by-test, pick-yes, and-T, T-and, or-T, T-inl, T-inr, bool-ext, conj-T, T-conj, every-T, T-every, all-append, and-yes, and-no, and-false, and-last, not-yes, not-no, tests}
 use Rattle.prices.specs.declared.TimedPrice.{TimedPrice}
 use Rattle.prices.specs.Prices.{legal}
 use Rattle.prices.specs.Pause.{rollingSeconds, within, keeping, mostKept, someFall, someRise, direction, firstTime, lastTimeFrom, lastTime, timesInOrder, soundKept}
+use Rattle.prices.specs.KeptWords.{highestOf, lowestOf}
 
 abbrev legalAt : ℕ → TimedPrice → Bool
 legalAt step x = legal step (x .price)
@@ -227,36 +230,51 @@ pub many-refused : (step : ℕ) (xs : List TimedPrice) → mostKept < length xs 
 unfolding soundKept
 many-refused step xs h = rw (lt-leb (length xs) mostKept h)
 
--- the direction where a rise was seen or not before these prices
+-- the direction by the range of the prices
 
-abbrev pub directionOn : Bool → ℕ → List TimedPrice → ℕ
-directionOn rises p xs = pick (someFall p xs) 1 (pick (rises || someRise p xs) 2 0)
+or-assoc : (a b c : Bool) → (a || (b || c)) ≡ ((a || b) || c)
+or-assoc true b c = refl
+or-assoc false b c = refl
 
-pub direction-start : (p : ℕ) (xs : List TimedPrice) → directionOn false p xs ≡ direction p xs
+-- one of two tests that follows from the other
+or-second : (a b : Bool) → (T a → T b) → (a || b) ≡ b
+or-second a b h = bool-ext (a || b) b (λ t. elim (or-T a b t) [ inl x ↦ h x | inr x ↦ x ]) (T-inr a b)
+
+or-first : (a b : Bool) → (T b → T a) → (a || b) ≡ a
+or-first a b h = bool-ext (a || b) a (λ t. elim (or-T a b t) [ inl x ↦ x | inr x ↦ h x ]) (T-inl a b)
+
+either-falls : (p a b : ℕ) → (leb (10 * p) (9 * a) || leb (10 * p) (9 * b)) ≡ leb (10 * p) (9 * max a b)
+either-falls p a b =
+    elim (decLe a b) [
+      | yes h ↦ or-second (leb (10 * p) (9 * a)) (leb (10 * p) (9 * b)) (λ t. le→leb (10 * p) (9 * b) (omega (tests, t))) ∙ ap (λ (m : ℕ). leb (10 * p) (9 * m)) (omega arith)
+      | no h ↦ or-first (leb (10 * p) (9 * a)) (leb (10 * p) (9 * b)) (λ t. le→leb (10 * p) (9 * a) (omega (tests, t))) ∙ ap (λ (m : ℕ). leb (10 * p) (9 * m)) (omega arith)
+    ]
+
+either-rises : (p a b : ℕ) → (leb (11 * a) (10 * p) || leb (11 * b) (10 * p)) ≡ leb (11 * min a b) (10 * p)
+either-rises p a b =
+    elim (decLe a b) [
+      | yes h ↦ or-first (leb (11 * a) (10 * p)) (leb (11 * b) (10 * p)) (λ t. le→leb (11 * a) (10 * p) (omega (tests, t))) ∙ ap (λ (m : ℕ). leb (11 * m) (10 * p)) (omega arith)
+      | no h ↦ or-second (leb (11 * a) (10 * p)) (leb (11 * b) (10 * p)) (λ t. le→leb (11 * b) (10 * p) (omega (tests, t))) ∙ ap (λ (m : ℕ). leb (11 * m) (10 * p)) (omega arith)
+    ]
+
+falls-by-highest : (p k : ℕ) (xs : List TimedPrice) → (leb (10 * p) (9 * k) || someFall p xs) ≡ leb (10 * p) (9 * highestOf k xs)
+unfolding someFall any
+falls-by-highest p k [] = or-false (leb (10 * p) (9 * k))
+falls-by-highest p k (x ∷ xs) =
+    or-assoc (leb (10 * p) (9 * k)) _ _ ∙ ap (λ (b : Bool). b || someFall p xs) (either-falls p k (x .price)) ∙ falls-by-highest p (max k (x .price)) xs
+
+rises-by-lowest : (p k : ℕ) (xs : List TimedPrice) → (leb (11 * k) (10 * p) || someRise p xs) ≡ leb (11 * lowestOf k xs) (10 * p)
+unfolding someRise any
+rises-by-lowest p k [] = or-false (leb (11 * k) (10 * p))
+rises-by-lowest p k (x ∷ xs) =
+    or-assoc (leb (11 * k) (10 * p)) _ _ ∙ ap (λ (b : Bool). b || someRise p xs) (either-rises p k (x .price)) ∙ rises-by-lowest p (min k (x .price)) xs
+
+pub direction-by-range : (p low high : ℕ) (xs : List TimedPrice) → 0 < p → p ≤ 4294967295 → low ≡ lowestOf 4294967295 xs → high ≡ highestOf 0 xs → pick (leb (10 * p) (9 * high)) 1 (pick (leb (11 * low) (10 * p)) 2 0) ≡ direction p xs
 unfolding direction
-direction-start p xs = refl
-
-pub direction-falls : (rises : Bool) (p : ℕ) (x : TimedPrice) (xs : List TimedPrice) → 10 * p ≤ 9 * x .price → directionOn rises p (x ∷ xs) ≡ 1
-unfolding someFall any pick
-direction-falls rises p x xs h = rw (le-leb (10 * p) (9 * x .price) h)
-
-pub direction-rises : (rises : Bool) (p : ℕ) (x : TimedPrice) (xs : List TimedPrice) → 9 * x .price < 10 * p → 11 * x .price ≤ 10 * p → directionOn rises p (x ∷ xs) ≡ directionOn true p xs
-unfolding someFall someRise any
-direction-rises rises p x xs h k =
-    rw (lt-leb (10 * p) (9 * x .price) h, le-leb (11 * x .price) (10 * p) k) (ap (λ (b : Bool). pick (someFall p xs) 1 (pick b 2 0)) (or-true rises))
-  where
-    or-true : (a : Bool) → (a || true) ≡ true
-    or-true true = refl
-    or-true false = refl
-
-pub direction-next : (rises : Bool) (p : ℕ) (x : TimedPrice) (xs : List TimedPrice) → 9 * x .price < 10 * p → 10 * p < 11 * x .price → directionOn rises p (x ∷ xs) ≡ directionOn rises p xs
-unfolding someFall someRise any
-direction-next rises p x xs h k = rw (lt-leb (10 * p) (9 * x .price) h, lt-leb (11 * x .price) (10 * p) k)
-
-pub direction-none : (rises : Bool) (p : ℕ) → directionOn rises p [] ≡ pick rises 2 0
-unfolding someFall someRise any pick
-direction-none true p = refl
-direction-none false p = refl
+direction-by-range p low high xs h k el eh =
+    let f : someFall p xs ≡ leb (10 * p) (9 * highestOf 0 xs) = ap (λ (b : Bool). b || someFall p xs) (sym (lt-leb (10 * p) (9 * 0) (omega arith))) ∙ falls-by-highest p 0 xs in
+    let r : someRise p xs ≡ leb (11 * lowestOf 4294967295 xs) (10 * p) = ap (λ (b : Bool). b || someRise p xs) (sym (lt-leb (11 * 4294967295) (10 * p) (omega arith))) ∙ rises-by-lowest p 4294967295 xs in
+    rw (f, r, el, eh)
 
 pub direction-few : (p : ℕ) (xs : List TimedPrice) → direction p xs ≤ 2
 unfolding direction

@@ -1,6 +1,8 @@
 // The five-minute pause watch: timed prices kept in lent words, two words each, time and price, from an index on.
+use crate::PriceRange;
 use crate::TimedPrice;
 use crate::increments;
+use numbers::sizes;
 ghost use mathlib.Core.Path.{_≡_};
 ghost use Prim.Native.Nat.{_+_, _-_, _*_, _<_, _≤_};
 ghost use mathlib.Core.Bool.{_&&_};
@@ -11,7 +13,7 @@ ghost use Rattle.prices.specs.declared.TimedPrice.{TimedPrice};
 ghost use Rattle.prices.specs.Prices.{isStep, legal};
 ghost use Rattle.prices.specs.Pause;
 ghost use Rattle.prices.specs.Pause.{rollingSeconds, mostKept, within, firstTime, lastTime, timesInOrder, soundKept};
-ghost use Rattle.prices.specs.KeptWords.{keptWords, priceAt, keptIn, MovedDown, KeepsNew};
+ghost use Rattle.prices.specs.KeptWords.{keptWords, priceAt, keptIn, highestOf, lowestOf, MovedDown, KeepsNew};
 
 // The most prices that are kept, and their words.
 pub const MOST_KEPT: usize = 512;
@@ -128,25 +130,35 @@ pub fn first_within(w: &[u32], at: usize, n: usize, time: u32) -> usize
     n
 }
 
-// The direction of a new price against those of n prices from a position on: 1 for a fall, else 2 for a rise, 0 for neither.
-pub fn direction(w: &[u32], at: usize, from: usize, n: usize, price: u32) -> u32
+// The range of those of n prices from a position on; no price is outside of the numbers that it begins with.
+fn price_range(w: &[u32], at: usize, from: usize, n: usize) -> PriceRange
     requires { ⌜ (at + keptWords ≤ length (now w)) × (from ≤ n) × (n ≤ mostKept) ⌝ }
-    ensures { λ r. ⌜ r ≡ Pause.direction price (drop from (keptIn (now (w .entry)) at n)) ⌝ }
+    ensures { λ r. ⌜ (r .lowest ≡ lowestOf 4294967295 (drop from (keptIn (now (w .entry)) at n))) × (r .highest ≡ highestOf 0 (drop from (keptIn (now (w .entry)) at n))) ⌝ }
 {
-    let tenfold = 10 * (price as u64);
-    let mut rises = false;
+    let mut lowest = 4_294_967_295;
+    let mut highest = 0;
     let mut i = from;
     while i < n {
-        let earlier = price_at(w, at, i) as u64;
-        if tenfold <= 9 * earlier {
-            return FALL;
-        }
-        if 11 * earlier <= tenfold {
-            rises = true;
-        }
+        let price = price_at(w, at, i);
+        lowest = sizes::smaller(lowest, price);
+        highest = sizes::larger(highest, price);
         i += 1;
     }
-    if rises {
+    PriceRange { lowest, highest }
+}
+
+// The direction of a new price against those of n prices from a position on: 1 for a fall, else 2 for a rise, 0 for neither. Some price meets a test just where
+// the highest, or the lowest, does.
+pub fn direction(w: &[u32], at: usize, from: usize, n: usize, price: u32) -> u32
+    requires { ⌜ (at + keptWords ≤ length (now w)) × (from ≤ n) × (n ≤ mostKept) × (0 < price) ⌝ }
+    ensures { λ r. ⌜ r ≡ Pause.direction price (drop from (keptIn (now (w .entry)) at n)) ⌝ }
+{
+    let range = price_range(w, at, from, n);
+    let tenfold = 10 * (price as u64);
+    if tenfold <= 9 * (range.highest as u64) {
+        return FALL;
+    }
+    if 11 * (range.lowest as u64) <= tenfold {
         return RISE;
     }
     0
