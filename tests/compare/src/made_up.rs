@@ -47,7 +47,7 @@ pub fn made_up(rng: &mut Rng, market: &Market) -> Venue {
     Venue {
         step: market.ladder.step,
         close,
-        phase: rng.pick(&[0, 1, 2, 2, 2]),
+        phase: rng.pick(&[0, 0, 1, 2, 2, 2]),
         bid,
         last_id,
         last_stamp,

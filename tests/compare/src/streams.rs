@@ -82,8 +82,8 @@ impl Market {
             firms: rng.pick(&[
                 NO_FIRMS, FEW_FIRMS, FEW_FIRMS, FEW_FIRMS, ONE_FIRM, BY_BYTES,
             ]),
-            timed: rng.pick(&[0, 5, 10, 30]),
-            swings: rng.pick(&[2, 20, 60]),
+            timed: rng.pick(&[0, 4, 8, 25]),
+            swings: rng.pick(&[5, 25, 60]),
             seconds: rng.pick(&[STILL, SECONDS, MINUTES]),
         }
     }
@@ -435,10 +435,10 @@ impl Kind {
 
     fn random(rng: &mut Rng) -> Self {
         match rng.up_to(99) {
-            0..9 => Kind::Sound,
-            9..16 => Kind::Nonsense,
-            16..26 => Kind::Damaged,
-            26..62 => Kind::MadeUp,
+            0..10 => Kind::Sound,
+            10..18 => Kind::Nonsense,
+            18..27 => Kind::Damaged,
+            27..64 => Kind::MadeUp,
             _ => Kind::Spoilt,
         }
     }
@@ -482,7 +482,7 @@ const EVENTS_A_SLIDE: u32 = 5;
 const LONG: u32 = 2 * PLACES as u32;
 
 /// And one may fill its kept prices up for so many events, and then go on.
-const LONG_WATCH: u32 = MOST_KEPT as u32 + 200;
+const LONG_WATCH: u32 = MOST_KEPT as u32 + 160;
 
 /// The longest buffer that a call lends, longer than any event may need.
 pub const MOST_BUFFER: usize = LEAST_BUFFER + 4_096;

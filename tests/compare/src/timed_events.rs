@@ -33,8 +33,8 @@ pub fn timed(rng: &mut Rng, market: &Market, venue: &Venue) -> Event {
     let odd = odd_price(rng);
     let swings = rng.up_to(99) < market.swings;
     let (time, price) = match rng.up_to(19) {
-        0 => (end, rng.pick(&[0, odd])),
-        1..6 if swings => (end, aimed),
+        0 | 1 => (end, rng.pick(&[0, odd])),
+        2..8 if swings => (end, aimed),
         _ if swings => (next, aimed),
         _ => (next, near),
     };
@@ -96,7 +96,7 @@ fn price(rng: &mut Rng, market: &Market, venue: &Venue) -> u32 {
 fn near_centre(rng: &mut Rng, market: &Market) -> u32 {
     let price = market.ladder.near(rng, market.centre, market.reach);
     let rung = market.ladder.rung_of(price);
-    match rng.one_in(2) {
+    match rng.one_in(3) {
         true => market.ladder.price_of((rung - rung % 10).max(10)),
         false => price,
     }
@@ -107,8 +107,7 @@ fn near_centre(rng: &mut Rng, market: &Market) -> u32 {
 fn around_tenth(rng: &mut Rng, ladder: Ladder, old: u32) -> u32 {
     let tenths = u64::from(old) * rng.pick(&[9, 11]);
     let border = tenths.div_ceil(10).min(u64::from(u32::MAX));
-    let reach = rng.up_to(1);
-    ladder.near(rng, ladder.rung_of(border as u32), reach)
+    ladder.near(rng, ladder.rung_of(border as u32), 1)
 }
 
 /// A legal price at most a step from the lowest from which this one is a fall, or from the
@@ -227,7 +226,7 @@ pub fn spoil_kept(rng: &mut Rng, kept: &mut Vec<TimedPrice>) {
         2 => kept[at].price = half_cent_price(rng),
         3 => kept[at].price = rng.pick(&[0, HIGHEST + CENT, u32::MAX]),
         4 => kept[at].price = odd_price(rng),
-        5 => kept[at].time = kept[at].time.saturating_sub(rng.pick(&[1, 1, 301])),
+        5 => kept[at].time = kept[at.saturating_sub(1)].time.saturating_sub(1),
         6 => kept[at].time = kept[at].time.saturating_add(rng.pick(&[1, 1, 301])),
         7 => kept[0].time = kept[len - 1].time.saturating_sub(rng.pick(SPANS)),
         _ => kept[len - 1].time = kept[0].time.saturating_add(rng.pick(SPANS)),
