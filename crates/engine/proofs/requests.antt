@@ -1,5 +1,6 @@
 -- What is claimed of document 02's requests.
 pub mod PassLaws
+pub mod BookReportLaws
 pub mod AccountLaws
 pub mod MarketOrderLaws
 pub mod HalfCentLaws
@@ -12,3 +13,4 @@ pub mod FullBookLaws
 pub mod FullBookReachedLaws
 pub mod StampLaws
 pub mod SlidPriceLaws
+pub mod PauseWatchLaws

@@ -1,4 +1,4 @@
--- The twelve sums, the one day and the slides of document 01, a day of market orders, one at a step of 50, days of falls, entries with bad codes, questions whether an entry would fill, days of firms, full books and slid prices, by computation. Assumes nothing.
+-- The twelve sums, the one day and the slides of document 01, a day of market orders, one at a step of 50, days of falls, entries with bad codes, questions whether an entry would fill, days of firms, full books, slid prices and timed prices, by computation. Assumes nothing.
 use native.Mathlib.Omega.{arith}
 use mathlib.Core.Path.{_≡_, refl, sym, subst}
 use mathlib.Core.List.{List, [], _∷_}
@@ -23,7 +23,7 @@ use Rattle.engine.specs.rules.Run.{Answered}
 use Rattle.engine.specs.rules.Fill
 use Rattle.engine.specs.claims.Account
 use Rattle.engine.specs.claims.SlidPrices.{PricesGiven, pricesOf, OnlyFall, OnlyFallFor}
-use Rattle.engine.specs.claims.Examples.{TwelveSums, HalfCentSums, Played, FirmsPlayedAtBoth, FullBookPlayedAtBoth, shortWith, hiddenShort, displayedBefore, HiddenToo, AtItsLimitToo, SlidPricesComputed, CodesInOrder, FillsTold, OtherSteps}
+use Rattle.engine.specs.claims.Examples.{TwelveSums, HalfCentSums, Played, FirmsPlayedAtBoth, FullBookPlayedAtBoth, shortWith, hiddenShort, displayedBefore, HiddenToo, AtItsLimitToo, SlidPricesComputed, PausesComputed, CodesInOrder, FillsTold, OtherSteps}
 
 pub twelve-sums : TwelveSums
 unfolding Prices.permitted Restriction.triggers SevenBit.byteCount SevenBit.bytesOf SevenBit.groups Tests.pick
@@ -86,6 +86,18 @@ slid-prices-computed =
           tt,
         ),
       );
+    }
+
+pub pauses-computed : PausesComputed
+unfolding Tests.pick Tests.every Tests.any Prices.isStep Prices.legal Prices.isBid Prices.permitted Restriction.triggers Restriction.phaseAfterTape Restriction.phaseAfterDayEnd Restriction.restrictionOn Orders.find Orders.ifSame Orders.restingShares Orders.without Orders.insert Matching.reaches Matching.better Matching.betterOf Matching.bestFrom Matching.best Matching.counterparty Matching.execution Matching.afterTrade Matching.trading Matching.withdrawing Matching.sameOwner Matching.meeting Matching.matchingWith Matching.matchingUpTo Matching.matching Pause.within Pause.keeping Pause.someFall Pause.someRise Pause.direction Pause.lastTime Pause.timesInOrder Pause.soundKept order-conditions.idsRise order-conditions.stampsDiffer order-conditions.soundOrder Market.restricted Market.permittedNow Working.limitOf Working.followsBid Working.lifeOf Working.workingPrice Working.orderOf Working.remainder Working.afterRemainder Working.work Pass.displayedClear Pass.moveDown Pass.slideOnce Pass.slideDown Pass.maySlide Pass.moveOf Pass.afterMove Pass.passOne Pass.passOver Venue.opened Venue.entering Venue.effectOfEntry Venue.effectOfCancel Venue.thePass Venue.restrictionReport Venue.directionReport Venue.effectOfDayEnd Venue.effectOf Sound.sound Refusals.refuseUnless Refusals.firstOf Refusals.refusalOfTerms Refusals.refusalOfCodes Refusals.refusalOfOwner Refusals.refusalOfPlace Refusals.refusalOfEntry Refusals.rests Refusals.refusalOfTime Refusals.refusalOfKind Refusals.refusal Run.stepUnless Run.step Run.run
+pauses-computed =
+    record {
+      atBoth = (
+        record { days = refl; fallBeforeRise = refl; asATape = refl; tapeUnseen = refl; highest = refl; full = refl; place = refl; broken = refl; unbroken = refl },
+        (record { days = refl; fallBeforeRise = refl; asATape = refl; tapeUnseen = refl; highest = refl; full = refl; place = refl; broken = refl; unbroken = refl }, tt),
+      );
+      illegalInCents = refl;
+      legalInHalfCents = refl;
     }
 
 pub codes-in-order : CodesInOrder

@@ -9,7 +9,7 @@ use mathlib.Core.List.{List, [], _∷_, _++_, map, append-nil}
 use lib.Dec.{T}
 use lib.ListN.{length}
 use borrow.Author.Tests.{lt-ltb}
-use Rattle.numbers.specs.Tests.{pick}
+use Rattle.numbers.specs.Tests.{pick, All}
 use Rattle.numbers.specs.Answers.{gives}
 use Rattle.numbers.specs.SevenBit.{bytesOfAll, overwrite}
 use Rattle.numbers.proofs.TestLaws.{by-test, T-true}
@@ -19,20 +19,13 @@ use Rattle.prices.specs.Restriction.{triggers, phaseAfterTape, phaseAfterDayEnd
 use Rattle.prices.proofs.RestrictionLaws.{off-in-0, on-in-1, on-in-2}
 use Rattle.prices.proofs.FallingAgainLaws.{same-day-stays, no-fall-stays, falls, day-ends, falling-again}
 use Rattle.book.specs.declared.Order.{Order}
-use Rattle.book.specs.rules.Orders.{find}
-use Rattle.book.specs.rules.Matching.{Happening, traded, withdrawn, matching}
 use Rattle.book.specs.rules.Words.{isBook}
 use Rattle.engine.specs.declared.Market.{Market}
 use Rattle.engine.specs.declared.Event.{Event}
 use Rattle.engine.specs.declared.Event.the-variants.{Entry as entry, Cancel as cancel, Bid as bid, Tape as tape, DayEnd as dayEnd, OwnedEntry as ownedEntry, TimedTape as timedTape}
-use Rattle.engine.specs.declared.Remainder.{Remainder}
-use Rattle.engine.specs.declared.Remainder.the-variants.{Filled, Cancelled, Rests}
-use Rattle.engine.specs.declared.Move.{Move}
-use Rattle.engine.specs.declared.Move.the-variants.{Stay, Cancel, Reprice}
 use Rattle.engine.specs.rules.Market.{marketAfter, permittedNow}
 use Rattle.engine.specs.rules.Reports.{Report, accepted, executed, cancelled, repriced, restrictionStarts, dayEnded, pauseTriggered}
-use Rattle.engine.specs.rules.Working.{remainder, afterRemainder, happened, work}
-use Rattle.engine.specs.rules.Pass.{afterMove, passOne, passOver}
+use Rattle.engine.specs.rules.Working.{work}
 use Rattle.engine.specs.rules.Venue.{Venue, opened, entering, effectOfEntry, effectOfCancel, thePass, restrictionReport, effectOfTape, cancelledAtEnd, effectOfDayEnd, effectOf}
 use Rattle.engine.specs.rules.Sound.{mostEvents, sound}
 use Rattle.engine.specs.rules.Refusals.{refuseUnless, refusalOfKind, leastBuffer, refusal}
@@ -46,6 +39,7 @@ use Rattle.engine.proofs.demand3.MarketLaws.{pause-by}
 use Rattle.engine.proofs.refinement.StepLaws.{reports-append}
 use Rattle.engine.proofs.refinement.QuoteLaws.{restriction-same, restriction-new}
 use Rattle.engine.proofs.requests.PassLaws.{same-pass}
+use Rattle.engine.proofs.requests.BookReportLaws.{work-each, pass-each}
 use Rattle.engine.proofs.refinement.OpeningLaws.{opening-known, opening-gives, opened-book, opened-venue, step-in}
 use Rattle.engine.proofs.demand3.SoundLaws.{sound-venue}
 use Rattle.engine.proofs.demand3.ReachedLaws.{step-sound}
@@ -139,41 +133,19 @@ phase-append (restrictionStarts ∷ xs) ys = ap (λ (rs : List Report). restrict
 phase-append (dayEnded k ∷ xs) ys = ap (λ (rs : List Report). dayEnded k ∷ rs) (phase-append xs ys)
 phase-append (pauseTriggered d p ∷ xs) ys = phase-append xs ys
 
-happenings-no-phase : (xs : List Happening) → phaseReports (map happened xs) ≡ []
-happenings-no-phase [] = refl
-happenings-no-phase (traded x ∷ xs) = happenings-no-phase xs
-happenings-no-phase (withdrawn i q ∷ xs) = happenings-no-phase xs
+-- no execution, cancellation or re-pricing is one
+abbrev NoPhase : Report → Type 0
+NoPhase r = (rs : List Report) → phaseReports (r ∷ rs) ≡ phaseReports rs
 
-remainder-no-phase : (r : Remainder) (o : Order) (os : List Order) → phaseReports ((afterRemainder r o os) .reports) ≡ []
-unfolding afterRemainder
-remainder-no-phase Filled o os = refl
-remainder-no-phase (Cancelled cause) o os = refl
-remainder-no-phase Rests o os = refl
+none-of-phase : (rs : List Report) → All NoPhase rs → phaseReports rs ≡ []
+none-of-phase [] h = refl
+none-of-phase (r ∷ rs) h = h .0 rs ∙ none-of-phase rs (h .1)
 
 work-no-phase : (o : Order) (os : List Order) → phaseReports ((work o os) .reports) ≡ []
-unfolding work
-work-no-phase o os =
-    phase-append (map happened (matching o os .happenings)) _ ∙ rw (happenings-no-phase (matching o os .happenings)) (remainder-no-phase (remainder (matching o os .left)) (matching o os .left) (matching o os .orders))
-
-move-no-phase : (y : Move) (o : Order) (os : List Order) (s : ℕ) → phaseReports ((afterMove y o os s) .reports) ≡ []
-unfolding afterMove
-move-no-phase Stay o os s = refl
-move-no-phase Cancel o os s = refl
-move-no-phase (Reprice p used) o os s = work-no-phase _ _
-
-turn-no-phase : (m : Market) (x : Option Order) (os : List Order) (s : ℕ) → phaseReports ((passOne m x os s) .reports) ≡ []
-unfolding passOne
-turn-no-phase m none os s = refl
-turn-no-phase m (some o) os s = move-no-phase _ o os s
-
-pass-no-phase : (m : Market) (is : List ℕ) (os : List Order) (s : ℕ) → phaseReports ((passOver m is os s) .reports) ≡ []
-unfolding passOver
-pass-no-phase m [] os s = refl
-pass-no-phase m (i ∷ is) os s = phase-append ((passOne m (find i os) os s) .reports) _ ∙ rw (turn-no-phase m (find i os) os s, pass-no-phase m is)
+work-no-phase o os = none-of-phase (work o os .reports) (work-each NoPhase (λ x rs. refl) (λ i q z rs. refl) (λ i p s rs. refl) o os)
 
 the-pass-no-phase : (m : Market) (v : Venue) → phaseReports ((thePass m v) .reports) ≡ []
-unfolding thePass
-the-pass-no-phase m v = pass-no-phase m _ (v .orders) (v .lastStamp)
+the-pass-no-phase m v = none-of-phase (thePass m v .reports) (pass-each NoPhase (λ x rs. refl) (λ i q z rs. refl) (λ i p s rs. refl) m v)
 
 day-end-last : (os : List Order) (k : ℕ) → phaseReports (map cancelledAtEnd os ++ dayEnded k ∷ []) ≡ dayEnded k ∷ []
 day-end-last [] k = refl

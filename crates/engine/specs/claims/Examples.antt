@@ -1,12 +1,14 @@
--- Document 01, "Twelve sums, and one day", a day of market orders, one at a step of 50, days of falls, entries with bad codes, questions whether an entry would fill, days of firms, full books and slid prices, as statements about the definitions. Assumes nothing.
+-- Document 01, "Twelve sums, and one day", a day of market orders, one at a step of 50, days of falls, entries with bad codes, questions whether an entry would fill, days of firms, full books, slid prices and timed prices, as statements about the definitions. Assumes nothing.
 use Prim.Native.Nat.{ℕ, zero, suc, _+_, _≤_, _<_}
 use mathlib.Core.Path.{_≡_}
 use mathlib.Core.Bool.{Bool, true, false, not}
 use mathlib.Core.List.{List, [], _∷_, map, foldl}
 use lib.Dec.{T, eqb}
+use lib.ListN.{replicate}
 use Rattle.numbers.specs.Tests.{conj, All}
 use Rattle.numbers.specs.Answers.{Outcome, gives, refuses}
 use Rattle.numbers.specs.SevenBit.{byteCount}
+use Rattle.prices.specs.declared.TimedPrice.{TimedPrice}
 use Rattle.prices.specs.Prices.{isBid, permitted, permittedOf}
 use Rattle.prices.specs.Restriction.{triggers}
 use Rattle.prices.specs.Watch.{watchOutcome}
@@ -469,6 +471,105 @@ pub record DaysComputed : Type 0 where
 pub record SlidPricesComputed : Type 0 where
   pub days : DaysComputed
   pub atBoth : All SlidPricesPlayed (100 ∷ 50 ∷ [])
+
+-- timed prices (No. 10): at a time, a price
+abbrev pub timedAt : ℕ → ℕ → TimedPrice
+timedAt t p = record { time = t; price = p }
+
+abbrev pub timed : ℕ → ℕ → Event
+timed t p = timedTape (timedAt t p)
+
+-- two days of them; a price 300 seconds before is looked at, one 301 seconds before isn't; so is one of the same second; a refused one changes nothing
+abbrev pub pauseDays : List Answered
+pauseDays =
+    gets (timed 0 100_000) []
+    ∷ gets (timed 10 100_000) []
+    ∷ gets (timed 310 90_000) (pauseTriggered 1 90_000 ∷ restrictionStarts ∷ [])
+    ∷ gets (timed 311 99_000) (pauseTriggered 2 99_000 ∷ [])
+    ∷ gets (timed 311 90_000) []
+    ∷ gets (timed 311 89_100) (pauseTriggered 1 89_100 ∷ [])
+    ∷ gets (timed 612 99_000) []
+    ∷ isRefused (timed 611 99_000) 22
+    ∷ gets (dayEnd 100_000) (dayEnded 2 ∷ [])
+    ∷ gets (timed 0 100) (restrictionStarts ∷ [])
+    ∷ isRefused (timed 301 0) 3
+    ∷ gets (timed 300 90) (pauseTriggered 1 90 ∷ [])
+    ∷ gets (timed 300 99) (pauseTriggered 2 99 ∷ [])
+    ∷ []
+
+-- a fall is looked for over all of them before a rise
+abbrev pub fallFirst : List Answered
+fallFirst =
+    gets (timed 5 50_000) (restrictionStarts ∷ []) ∷ gets (timed 5 100_000) (pauseTriggered 2 100_000 ∷ []) ∷ gets (timed 5 75_000) (pauseTriggered 1 75_000 ∷ []) ∷ []
+
+-- report 7, then 5, then the pass, in which a short displayed at the bid is re-priced
+abbrev pub beforeThePass : ℕ → List Answered
+beforeThePass s =
+    gets (bid 91_000) [] ∷ gets (entryOf 1 2 91_000 5 1 0 0) (accepted 1 1 91_000 ∷ []) ∷ gets (timed 0 100_000) []
+    ∷ gets (timed 1 90_000) (pauseTriggered 1 90_000 ∷ restrictionStarts ∷ repriced 1 (91_000 + s) 2 ∷ []) ∷ []
+
+-- a tape price of kind 4 is neither looked at nor kept
+abbrev pub tapeBeside : List Answered
+tapeBeside = gets (timed 0 100_000) [] ∷ gets (tape 50_000) (restrictionStarts ∷ []) ∷ gets (timed 1 95_000) [] ∷ []
+
+-- the highest times, 301 and 300 seconds apart
+abbrev pub highestTimes : List Answered
+highestTimes =
+    gets (timed 4_294_966_994 100_000) [] ∷ gets (timed 4_294_967_295 90_000) (restrictionStarts ∷ [])
+    ∷ gets (timed 4_294_967_295 81_000) (pauseTriggered 1 81_000 ∷ []) ∷ isRefused (timed 4_294_967_294 90_000) 22 ∷ isRefused (timed 0 90_000) 22
+    ∷ gets (dayEnd 100_000) (dayEnded 2 ∷ []) ∷ gets (timed 4_294_966_995 100_000) []
+    ∷ gets (timed 4_294_967_295 90_000) (pauseTriggered 1 90_000 ∷ restrictionStarts ∷ []) ∷ []
+
+-- made-up venues with these kept prices and no order, and n prices of one second
+abbrev pub keptVenue : ℕ → List TimedPrice → Venue
+keptVenue s kept =
+    record { market = record { close = 100_000; phase = 0; bid = 0; step = s }; orders = []; kept = kept; lastId = 0; lastStamp = 0; acceptedEvents = 0 }
+
+abbrev pub inOneSecond : ℕ → List TimedPrice
+inOneSecond n = replicate n (timedAt 1_000 100_000)
+
+-- from 512 of them: the time before the price's place, the price before the time; 300 seconds later there is no place, 301 seconds later there is
+abbrev pub fullWatch : List Answered
+fullWatch =
+    isRefused (timed 1_000 100_000) 23 ∷ isRefused (timed 999 100_000) 22 ∷ isRefused (timed 999 0) 3 ∷ isRefused (timed 1_300 100_000) 23
+    ∷ gets (timed 1_301 100_000) [] ∷ gets (timed 1_301 90_000) (pauseTriggered 1 90_000 ∷ restrictionStarts ∷ []) ∷ []
+
+-- from 511 there is one place
+abbrev pub onePlace : List Answered
+onePlace = gets (timed 1_000 100_000) [] ∷ isRefused (timed 1_000 100_000) 23 ∷ []
+
+abbrev pub PlaysFrom : Venue → List Answered → Type 0
+PlaysFrom v xs = run v (map (λ (x : Answered). callOf (x .event)) xs) .answered ≡ xs
+
+-- kept prices that break a venue record at both steps, and some that don't at the step s
+abbrev pub brokenKept : List (List TimedPrice)
+brokenKept =
+    inOneSecond 513 ∷ (timedAt 0 0 ∷ []) ∷ (timedAt 0 90_025 ∷ []) ∷ (timedAt 1_000 100 ∷ timedAt 999 100 ∷ [])
+    ∷ (timedAt 1_000 100 ∷ timedAt 1_001 100 ∷ timedAt 1_000 100 ∷ []) ∷ (timedAt 1_000 100 ∷ timedAt 1_301 100 ∷ []) ∷ []
+
+abbrev pub soundKeptPrices : ℕ → List (List TimedPrice)
+soundKeptPrices s = inOneSecond 512 ∷ (timedAt 1_000 (90_000 + s) ∷ timedAt 1_300 100 ∷ timedAt 1_300 100 ∷ []) ∷ []
+
+abbrev pub noBidAnswers : ℕ → List (List TimedPrice) → List (Outcome (List Report))
+noBidAnswers s ks = map (λ (kept : List TimedPrice). step (keptVenue s kept) (bid 0) leastBuffer .answer) ks
+
+pub record PausesPlayed (s : ℕ) : Type 0 where
+  pub days : PlaysFrom (opened s 100_000) pauseDays
+  pub fallBeforeRise : PlaysFrom (opened s 100_000) fallFirst
+  pub asATape : PlaysFrom (opened s 100_000) (beforeThePass s)
+  pub tapeUnseen : PlaysFrom (opened s 100_000) tapeBeside
+  pub highest : PlaysFrom (opened s 100_000) highestTimes
+  pub full : PlaysFrom (keptVenue s (inOneSecond 512)) fullWatch
+  pub place : PlaysFrom (keptVenue s (inOneSecond 511)) onePlace
+  -- "Over 512 kept prices, an illegal one, times that fall or span more than 300 seconds break the venue record"
+  pub broken : noBidAnswers s brokenKept ≡ replicate 6 (refuses 16)
+  pub unbroken : noBidAnswers s (soundKeptPrices s) ≡ replicate 2 (gives [])
+
+pub record PausesComputed : Type 0 where
+  pub atBoth : All PausesPlayed (100 ∷ 50 ∷ [])
+  -- a kept price is legal or not at the venue's step
+  pub illegalInCents : noBidAnswers 100 ((timedAt 0 90_050 ∷ []) ∷ []) ≡ refuses 16 ∷ []
+  pub legalInHalfCents : noBidAnswers 50 ((timedAt 0 90_050 ∷ []) ∷ []) ≡ gives [] ∷ []
 
 -- other steps than 50 and 100 (No. 2), beside a close, a bid and a price that are refused at every step: "refused with 17, before the close or price is looked
 -- at"; in a venue record whose close is legal by itself "it is a broken condition"

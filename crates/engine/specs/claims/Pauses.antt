@@ -96,9 +96,9 @@ AllLooked day [] = Unit {0}
 AllLooked day (x ∷ xs) = Looked day (x .event) (x .answer) × AllLooked (dayAnswered day (x .event) (x .answer)) xs
 
 -- of a list, and of the prices that the venue keeps after it: those of the day within 300 seconds of the last one
-pub record ByPlainLook (xs : List Answered) (prices : List TimedPrice) : Type 0 where
+pub record ByPlainLook (xs : List Answered) (kept : List TimedPrice) : Type 0 where
   pub looked : AllLooked [] xs
-  pub kept : prices ≡ within (lastTime (dayFrom [] xs)) (dayFrom [] xs)
+  pub keeps : kept ≡ within (lastTime (dayFrom [] xs)) (dayFrom [] xs)
 
 -- for every step and close that open takes and every list of events, each lent a report buffer of any length
 abbrev pub PausesByPlainLook : Type 0
@@ -169,6 +169,7 @@ Untimed (timedTape x) = ⊥
 -- an event of another kind is judged and done as before, whatever prices are kept, and looks at none of them; where none is kept, none is afterwards
 pub record UntimedAsBefore (v : Venue) (e : Event) (n : ℕ) : Type 0 where
   pub same : T (soundKept (v.market.step) (v .kept)) → step v e n ≡ stepBeforeNo10 v e n
+  pub judged : (kept : List TimedPrice) → refusalBeforeNo10 (withKeptPrices kept v) e n ≡ refusalBeforeNo10 v e n
   pub unread : (m : Market) (kept : List TimedPrice) → effectOf m (withKeptPrices kept v) e ≡ effectOf m v e
   pub noPause : (rs : List Report) → step v e n .answer ≡ gives rs → otherReports rs ≡ rs
   pub none : v.kept ≡ [] → step v e n .venue .kept ≡ []
