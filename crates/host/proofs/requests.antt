@@ -4,3 +4,4 @@ pub mod FallingAgainLaws
 pub mod OwnerLaws
 pub mod FullBookLaws
 pub mod SlidPriceLaws
+pub mod PauseWatchLaws

@@ -8,3 +8,4 @@ pub mod HostFallingAgain
 pub mod HostOwners
 pub mod HostFullBook
 pub mod HostSlidPrices
+pub mod HostPauses

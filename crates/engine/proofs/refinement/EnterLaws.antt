@@ -12,7 +12,7 @@ use Rattle.prices.specs.declared.TimedPrice.{TimedPrice}
 use Rattle.book.specs.declared.Order.{Order}
 use Rattle.book.specs.rules.Words.{resting}
 use Rattle.engine.specs.declared.Entry.{Entry}
-use Rattle.engine.specs.declared.Event.the-variants.{OwnedEntry as ownedEntry, TimedTape as timedTape}
+use Rattle.engine.specs.declared.Event.the-variants.{OwnedEntry as ownedEntry}
 use Rattle.engine.specs.declared.Market.{Market}
 use Rattle.engine.specs.rules.Market.{marketAfter}
 use Rattle.engine.specs.rules.Reports.{Report, accepted}

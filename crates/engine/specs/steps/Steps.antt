@@ -13,7 +13,7 @@ use Rattle.book.specs.rules.Words.{emptyOrder, resting}
 use Rattle.engine.specs.declared.Market.{Market}
 use Rattle.engine.specs.declared.Entry.{Entry}
 use Rattle.engine.specs.declared.Event.{Event}
-use Rattle.engine.specs.declared.Event.the-variants.{Entry as entry, OwnedEntry as ownedEntry, TimedTape as timedTape}
+use Rattle.engine.specs.declared.Event.the-variants.{Entry as entry, OwnedEntry as ownedEntry}
 use Rattle.engine.specs.declared.Move.{Move}
 use Rattle.engine.specs.declared.Move.the-variants.{Stay}
 use Rattle.engine.specs.rules.Market.{restricted}

@@ -4,7 +4,7 @@ use mathlib.Core.Path.{subst}
 use borrow.Author.Tests.{lt-ltb}
 use Rattle.numbers.specs.Tests.{pick}
 use Rattle.numbers.specs.Answers.{Outcome}
-use Rattle.engine.specs.declared.Event.the-variants.{OwnedEntry as ownedEntry, TimedTape as timedTape}
+use Rattle.engine.specs.declared.Event.the-variants.{OwnedEntry as ownedEntry}
 use Rattle.engine.specs.claims.Calls.{Applied}
 use Rattle.engine.specs.claims.Owners.{FirmsApartInCalls}
 use Rattle.engine.proofs.bytes.RecordLaws.{record-unique}

@@ -8,7 +8,7 @@ use Rattle.numbers.specs.SevenBit.{IsByte}
 use Rattle.book.specs.rules.Words.{resting}
 use Rattle.engine.specs.declared.Entry.{Entry}
 use Rattle.engine.specs.declared.Event.{Event}
-use Rattle.engine.specs.declared.Event.the-variants.{OwnedEntry as ownedEntry, TimedTape as timedTape}
+use Rattle.engine.specs.declared.Event.the-variants.{OwnedEntry as ownedEntry}
 use Rattle.engine.specs.rules.Records.{recordAt}
 use Rattle.engine.specs.claims.Owners.{FirmsApartInCalls, Unowned, NamesNoOwner, UnownedCallAsBefore, WithoutOwnInBytes}
 use Rattle.host.specs.rules.Host.{outcomeOf}

@@ -5,7 +5,7 @@ use mathlib.Core.Path.{_≡_, sym, ap, _∙_, subst}
 use mathlib.Core.List.{List}
 use Rattle.engine.specs.declared.Entry.{Entry}
 use Rattle.engine.specs.declared.Event.{Event}
-use Rattle.engine.specs.declared.Event.the-variants.{OwnedEntry as ownedEntry, TimedTape as timedTape}
+use Rattle.engine.specs.declared.Event.the-variants.{OwnedEntry as ownedEntry}
 use Rattle.engine.specs.declared.MayRefuse.{MayRefuse}
 use Rattle.engine.specs.rules.Venue.{Venue}
 use Rattle.engine.specs.rules.Refusals.{refusalOfOwner, refusalOfEntry, refusalOfKind}
