@@ -1,5 +1,5 @@
 /* A host program in C: checks event records, asks for permitted prices at both steps, watches a close, applies single events by venue_apply, those of a
-   firm among them, and asks whether entries would fill.
+   firm among them, asks whether entries would fill, and sends timed tape prices.
    Build and run, from the repository's root:
    rt staticlib host && cc -Wall -Wextra -Iinclude examples/host.c target/staticlib/libhost.a -o target/host && target/host */
 #include <inttypes.h>
@@ -41,6 +41,32 @@ static void ask(const uint32_t *words, uint32_t mark, uint32_t price, uint32_t s
         printf("%s, %" PRIu32 " read\n", venue_fills(answer) ? "yes" : "no", venue_orders_read(answer));
 }
 
+/* Writes a number in the seven-bit form; gives the place behind it. */
+static uint8_t *put_number(uint8_t *at, uint32_t x)
+{
+    while (x >= 128) {
+        *at++ = x % 128 + 128;
+        x /= 128;
+    }
+    *at++ = x;
+    return at;
+}
+
+/* A timed tape price, a record of kind 7. Report 7 comes before all others of the event; its kind and its direction take a byte each. */
+static void timed_tape(uint32_t *words, uint32_t time, uint32_t price)
+{
+    static uint8_t reports[VENUE_REPORT_BYTES];
+    uint8_t record[11], *end = put_number(put_number(put_number(record, 7), time), price);
+    uint32_t answer = venue_apply(words, VENUE_WORDS, record, end - record, reports, sizeof reports);
+    printf("timed tape price, %" PRIu32 " %" PRIu32 ": ", time, price);
+    if (venue_refusal(answer) != 0)
+        printf("refusal %" PRIu32 "\n", venue_refusal(answer));
+    else if (venue_count(answer) > 0 && reports[0] == 7)
+        printf("report 7, %s\n", reports[1] == 1 ? "a fall" : "a rise");
+    else
+        printf("no report 7\n");
+}
+
 int main(void)
 {
     static uint32_t words[VENUE_WORDS];
@@ -55,14 +81,14 @@ int main(void)
     static const uint8_t firm_buys[] = {0x06, 0x04, 0x00, 0xA0, 0xC2, 0x05, 0x64, 0x01, 0x00, 0x00, 0x07};
     static const uint8_t no_firm[] = {0x06, 0x05, 0x00, 0xA0, 0xC2, 0x05, 0x64, 0x01, 0x00, 0x00, 0x00};
     static const uint8_t last_group_0[] = {0x03, 0x83, 0x00};
-    static const uint8_t kind_7[] = {0x07, 0x01};
+    static const uint8_t kind_8[] = {0x08, 0x01};
     static const uint8_t field_2_32[] = {0x02, 0x80, 0x80, 0x80, 0x80, 0x10};
 
     check("bid 91100", bid, sizeof bid);
     check("entry", entry, sizeof entry);
     check("bid cut short", bid, sizeof bid - 1);
     check("last group 0 after another", last_group_0, sizeof last_group_0);
-    check("kind 7", kind_7, sizeof kind_7);
+    check("kind 8", kind_8, sizeof kind_8);
     check("a field of 2^32", field_2_32, sizeof field_2_32);
     check("empty", bid, 0);
     price("no bid", VENUE_CENT, 0);
@@ -97,5 +123,10 @@ int main(void)
     ask(words, 0, 0, 501);
     ask(words, 9, 90550, 0);
     ask(words, 9, 0, 1);
+    timed_tape(words, 0, 100000);
+    timed_tape(words, 300, 90000);
+    timed_tape(words, 299, 90000);
+    timed_tape(words, 300, 99000);
+    timed_tape(words, 601, 81000);
     return 0;
 }

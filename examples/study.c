@@ -11,7 +11,7 @@
 #include <string.h>
 #include <venue.h>
 
-enum { ENTRY = 1, CANCEL = 2, BID = 3, TAPE = 4, DAY_END = 5, OWNED_ENTRY = 6 };
+enum { ENTRY = 1, CANCEL = 2, BID = 3, DAY_END = 5, OWNED_ENTRY = 6, TIMED_TAPE = 7 };
 
 /* An event: what the table calls it, and the numbers of its record, the kind and its fields. */
 struct event {
@@ -22,7 +22,9 @@ struct event {
 
 static const struct event day[] = {
     {"bid 95000", 2, {BID, 95000}},
-    {"tape 90000", 2, {TAPE, 90000}},
+    /* time in seconds, price: the second is 10% below the first, and below the close */
+    {"tape 100000, second 0", 3, {TIMED_TAPE, 0, 100000}},
+    {"tape 90000, second 300", 3, {TIMED_TAPE, 300, 90000}},
     {"bid 91000", 2, {BID, 91000}},
     /* id, mark 2 (short), limit, shares, displayed, day, slide 0 (continuous) */
     {"1 sells 500 short, 90500", 8, {ENTRY, 1, 2, 90500, 500, 1, 0, 0}},
@@ -116,15 +118,18 @@ static void take_report(uint32_t kind, const uint32_t *f, uint32_t entered, char
     case 5:
         snprintf(text, size, "restriction on");
         break;
-    default:
+    case 6:
         snprintf(text, size, "day ended, phase %" PRIu32, f[0]);
+        break;
+    default:
+        snprintf(text, size, "pause watch, a %s to %" PRIu32, f[0] == 1 ? "fall" : "rise", f[1]);
     }
 }
 
 /* Prints the line of the table for an event, whose bytes stand from a place up to an end. */
 static void print_event(const struct event *event, const uint8_t *bytes, const uint8_t *end)
 {
-    static const int fields[] = {1, 3, 4, 3, 3, 0, 1};
+    static const int fields[] = {1, 3, 4, 3, 3, 0, 1, 2};
     const uint32_t *numbers = event->numbers;
     int refused = bytes < end && *bytes == 0;
     char line[400] = "";

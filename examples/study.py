@@ -10,12 +10,14 @@ rt staticlib host && cc -shared -o target/libvenue.so -Wl,--whole-archive target
 import re
 from ctypes import CDLL, POINTER, Structure, byref, c_size_t, c_uint8, c_uint32, c_uint64
 
-ENTRY, CANCEL, BID, TAPE, DAY_END, OWNED_ENTRY = 1, 2, 3, 4, 5, 6
+ENTRY, CANCEL, BID, DAY_END, OWNED_ENTRY, TIMED_TAPE = 1, 2, 3, 5, 6, 7
 
 # the events: what the table calls each, and the numbers of its record, the kind and its fields
 DAY = [
     ("bid 95000", (BID, 95000)),
-    ("tape 90000", (TAPE, 90000)),
+    # time in seconds, price: the second is 10% below the first, and below the close
+    ("tape 100000, second 0", (TIMED_TAPE, 0, 100000)),
+    ("tape 90000, second 300", (TIMED_TAPE, 300, 90000)),
     ("bid 91000", (BID, 91000)),
     # id, mark 2 (short), limit, shares, displayed, day, slide 0 (continuous)
     ("1 sells 500 short, 90500", (ENTRY, 1, 2, 90500, 500, 1, 0, 0)),
@@ -118,7 +120,10 @@ def take_report(kind, rest, entered):
         return f"order {order} re-priced to {at}, stamp {stamp}"
     if kind == 5:
         return "restriction on"
-    return f"day ended, phase {next(rest)}"
+    if kind == 6:
+        return f"day ended, phase {next(rest)}"
+    direction, at = next(rest), next(rest)
+    return f"pause watch, a {'fall' if direction == 1 else 'rise'} to {at}"
 
 
 def print_event(what, numbers, data):

@@ -75,8 +75,8 @@ uint32_t venue_open(uint32_t *words, size_t words_length, uint32_t step, uint32_
     7  256 orders rest, and the entry needs a place: its life is 0, and it is no market order, unless one of a short while the restriction is on and a bid
        is present. Every other entry is taken into a full book too: it trades, and what is left of it is cancelled
     8  no order rests under the id to cancel
-   22  the time of a timed tape price is before the last one of the day
-   23  the timed tape price would be the 513th that is kept, those not counted that its time leaves behind */
+   22  the time of a timed tape price is before that of the last one of the day
+   23  512 timed tape prices of the day that were accepted before it have a time of at least its own less 300 */
 uint32_t venue_apply(uint32_t *words, size_t words_length, const uint8_t *record, size_t record_length, uint8_t *reports,
                      size_t reports_length);
 
@@ -104,7 +104,7 @@ struct venue_progress {
    records; 10 to 12 come again at the same offset. Records played in pieces give what they give in one call. An offset at or past the end plays
    nothing, and progress.at is then that offset.
    Words behind the venue, bytes behind those written and ends behind the last event keep their content.
-   What to lend: each call checks the venue record, which takes about as long as an event, and longer where many orders rest. So with room for one
+   What to lend: each call checks the venue record, which takes about as long as an event, and longer where many orders rest or many prices are kept. So with room for one
    event in each call venue_play is no faster than venue_apply. With 1 MiB for reports and 65,536 ends the check no longer counts. */
 uint32_t venue_play(uint32_t *words, size_t words_length, const uint8_t *records, size_t records_length, uint64_t from, uint8_t *reports,
                     size_t reports_length, uint64_t *ends, size_t ends_length, struct venue_progress *progress);
