@@ -59,7 +59,12 @@ pub(crate) fn write_restriction_starts(bytes: &mut [u8], at: usize) -> usize
     write::put_numbers(bytes, at, &numbers)
 }
 
-pub(crate) fn write_pause_triggered(bytes: &mut [u8], at: usize, direction: u32, price: u32) -> usize
+pub(crate) fn write_pause_triggered(
+    bytes: &mut [u8],
+    at: usize,
+    direction: u32,
+    price: u32,
+) -> usize
     requires { ⌜ at + length (reportBytes (pauseTriggered direction price)) ≤ length (now bytes) ⌝ }
     ensures { λ r. ⌜ Put (reportBytes (pauseTriggered direction price)) at (now (bytes .entry)) r (now (bytes .exit)) ⌝ }
 {

@@ -64,11 +64,7 @@ fn slide_down(m: Market, o: Order) -> Move
     ensures { λ r. ⌜ r ≡ slideDown m o ⌝ }
 {
     if o.slide == 0 {
-        return move_down(
-            sizes::larger(o.limit, working::permitted_now(m)),
-            o.used,
-            o,
-        );
+        return move_down(sizes::larger(o.limit, working::permitted_now(m)), o.used, o);
     }
     if o.slide == 1 {
         return slide_once(m, o);

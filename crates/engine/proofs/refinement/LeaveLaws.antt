@@ -26,7 +26,8 @@ use Rattle.engine.specs.rules.Reports.{cancelled, dayEnded, askedFor, en
 use Rattle.engine.specs.rules.Venue.{Venue, effectOfCancel, cancelledAtEnd, effectOfDayEnd, effectOf, venueAfter}
 use Rattle.engine.specs.rules.Sound.{mostEvents}
 use Rattle.engine.specs.rules.Records.{reportBytes, reportsBytes}
-use Rattle.engine.specs.steps.Memory.{Ordered, Becomes, Room, inMarket, withOrders, withKept, finished, effectIn, MayAccept, Accepts}
+use Rattle.engine.specs.steps.Memory.{Ordered, Becomes, Room, inMarket, withOrders, finished, effectIn, MayAccept, Accepts}
+use Rattle.engine.specs.claims.Pauses.{withKept}
 use Rattle.engine.specs.rules.Layout.{venueOf}
 use Rattle.engine.proofs.refinement.StepLaws.{reports-one, reports-append}
 use Rattle.engine.proofs.refinement.MemoryLaws.{becomes-then, becomes-as, holds-becomes}

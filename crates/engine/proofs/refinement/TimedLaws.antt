@@ -26,7 +26,8 @@ use Rattle.engine.specs.rules.Sound.{sound}
 use Rattle.engine.specs.rules.Refusals.{refusalOfTime, refusalOfKind}
 use Rattle.engine.specs.rules.Records.{reportsBytes}
 use Rattle.engine.specs.rules.Layout.{venueOf}
-use Rattle.engine.specs.steps.Memory.{Ordered, KeepsOrdered, Becomes, Room, withKept, effectIn, MayAccept, AcceptsFrom, Accepts}
+use Rattle.engine.specs.steps.Memory.{Ordered, KeepsOrdered, Becomes, Room, effectIn, MayAccept, AcceptsFrom, Accepts}
+use Rattle.engine.specs.claims.Pauses.{withKept}
 use Rattle.engine.proofs.refinement.RefusalLaws.{TimedAllowed, Unless, sound-step, refusalOfKind-known}
 use Rattle.engine.proofs.refinement.RefuseLaws.{refuse-yes, refuse-no}
 use Rattle.engine.proofs.refinement.MemoryLaws.{spare-then, becomes-then, becomes-as, new-kept}
@@ -127,12 +128,14 @@ module _ (w : List ℕ) (x : TimedPrice) (a : MayAccept w) (none-given : refusal
           tape-may-follow =
               let g = sound-venue (venueOf w) (a .sound) in
               let t = allowed in
-              let k = keeping-sound (venueOf w .market .step) (x .time) (x .price) (venueOf w .kept) (g .kept) (t .price) (t .time) (t .few) in
-              (record {
-                ordered = f .ordered;
-                sound = subst (λ (u : Venue). T (sound u)) (sym (f .venue)) (venue-sound _ (record { book = g .book; market = g .market; kept = k; events = g .events; stamps = g .stamps }));
-                events = rw (f .venue) (a .events);
-              }, room-as b₁ at (ap (λ (y : Effect). y .reports) (sym tape-same)) (room-then (directionReport d (x .price)) (effectIn w (tape (x .price)) .reports) both put))
+              let k = keeping-sound (venueOf w .market .step) (x .time) (x .price) (venueOf w .kept) (g .kept) (t .price) (t .time) (t .few) in (
+                record {
+                  ordered = f .ordered;
+                  sound = subst (λ (u : Venue). T (sound u)) (sym (f .venue)) (venue-sound _ (record { book = g .book; market = g .market; kept = k; events = g .events; stamps = g .stamps }));
+                  events = rw (f .venue) (a .events);
+                },
+                room-as b₁ at (ap (λ (y : Effect). y .reports) (sym tape-same)) (room-then (directionReport d (x .price)) (effectIn w (tape (x .price)) .reports) both put),
+              )
 
           pub timed-done : {w′ b′ : List ℕ} {end : ℕ} → AcceptsFrom w₁ w′ b₁ b′ (tape (x .price)) at end → Accepts w w′ b b′ (timedTape x) end
           unfolding effectIn effectOf thePass

@@ -30,7 +30,7 @@ use Rattle.engine.specs.rules.Refusals.{refuseUnless, firstOf, refusalOf
 use Rattle.engine.specs.rules.Run.{Step, stepUnless, step, Call, Run, run}
 use Rattle.engine.specs.rules.Layout.{venueOf}
 use Rattle.engine.specs.claims.Calls.{AppliedCall, Chain}
-use Rattle.engine.specs.claims.Pauses.{dayAfter, dayAnswered, dayFrom, otherReports, TimeRefused, Looked, AllLooked, PausesByPlainLook, CallsByPlainLook, PausesByPlainLookInCalls, TimedAsTape, TimedTapesAsTapes, withKeptPrices, soundBeforeNo10, refusalBeforeNo10, Untimed, UntimedEventsAsBefore}
+use Rattle.engine.specs.claims.Pauses.{dayAfter, dayAnswered, dayFrom, otherReports, TimeRefused, Looked, AllLooked, PausesByPlainLook, CallsByPlainLook, PausesByPlainLookInCalls, TimedAsTape, TimedTapesAsTapes, withKept, soundBeforeNo10, refusalBeforeNo10, Untimed, UntimedEventsAsBefore}
 use Rattle.engine.proofs.demand3.MarketLaws.{pause-by}
 use Rattle.engine.proofs.demand3.CallLaws.{callOf, fresh-run}
 use Rattle.engine.proofs.refinement.OpeningLaws.{opening-known, opening-gives, opened-book, opened-venue}
@@ -267,7 +267,7 @@ judged-as-before : (v : Venue) (e : Event) (n : ℕ) → T (soundKept (v.market.
 unfolding refusal sound
 judged-as-before v e n t = rw (T-true (soundKept (v.market.step) (v .kept)) t) refl
 
-kind-unread : (v : Venue) (kept : List TimedPrice) (e : Event) → Untimed e → refusalOfKind (withKeptPrices kept v) e ≡ refusalOfKind v e
+kind-unread : (v : Venue) (kept : List TimedPrice) (e : Event) → Untimed e → refusalOfKind (withKept kept v) e ≡ refusalOfKind v e
 unfolding refusalOfKind refusalOfEntry refusalOfPlace
 kind-unread v kept (entry e) u = refl
 kind-unread v kept (cancel i) u = refl
@@ -277,7 +277,7 @@ kind-unread v kept (dayEnd c) u = refl
 kind-unread v kept (ownedEntry e k) u = refl
 kind-unread v kept (timedTape x) u = absurd u
 
-effect-unread : (m : Market) (v : Venue) (kept : List TimedPrice) (e : Event) → Untimed e → effectOf m (withKeptPrices kept v) e ≡ effectOf m v e
+effect-unread : (m : Market) (v : Venue) (kept : List TimedPrice) (e : Event) → Untimed e → effectOf m (withKept kept v) e ≡ effectOf m v e
 unfolding effectOf effectOfEntry effectOfCancel thePass effectOfDayEnd
 effect-unread m v kept (entry e) u = refl
 effect-unread m v kept (cancel i) u = refl

@@ -120,8 +120,8 @@ PausesByPlainLookInCalls =
 -- "does all that a tape event does"
 
 -- the venue with other kept prices
-abbrev pub withKeptPrices : List TimedPrice → Venue → Venue
-withKeptPrices kept v =
+abbrev pub withKept : List TimedPrice → Venue → Venue
+withKept kept v =
     record { market = v.market; orders = v.orders; kept = kept; lastId = v.lastId; lastStamp = v.lastStamp; acceptedEvents = v.acceptedEvents }
 
 -- what a step reports with these reports in front
@@ -133,7 +133,7 @@ inFront first (refuses n) = refuses n
 pub record TimedAsTape (v : Venue) (x : TimedPrice) (n : ℕ) : Type 0 where
   pub refused : refusal v (timedTape x) n ≡ firstOf (refusal v (tape (x .price)) n) (refusalOfTime (v .kept) (x .time))
   pub answer : refusal v (timedTape x) n ≡ none → step v (timedTape x) n .answer ≡ inFront (pauseReport (x .price) (within (x .time) (v .kept))) (step v (tape (x .price)) n .answer)
-  pub venue : refusal v (timedTape x) n ≡ none → step v (timedTape x) n .venue ≡ withKeptPrices (keeping (x .time) (x .price) (v .kept)) (step v (tape (x .price)) n .venue)
+  pub venue : refusal v (timedTape x) n ≡ none → step v (timedTape x) n .venue ≡ withKept (keeping (x .time) (x .price) (v .kept)) (step v (tape (x .price)) n .venue)
 
 abbrev pub TimedTapesAsTapes : Type 0
 TimedTapesAsTapes = (v : Venue) (x : TimedPrice) (n : ℕ) → TimedAsTape v x n
@@ -169,8 +169,8 @@ Untimed (timedTape x) = ⊥
 -- an event of another kind is judged and done as before, whatever prices are kept, and looks at none of them; where none is kept, none is afterwards
 pub record UntimedAsBefore (v : Venue) (e : Event) (n : ℕ) : Type 0 where
   pub same : T (soundKept (v.market.step) (v .kept)) → step v e n ≡ stepBeforeNo10 v e n
-  pub judged : (kept : List TimedPrice) → refusalBeforeNo10 (withKeptPrices kept v) e n ≡ refusalBeforeNo10 v e n
-  pub unread : (m : Market) (kept : List TimedPrice) → effectOf m (withKeptPrices kept v) e ≡ effectOf m v e
+  pub judged : (kept : List TimedPrice) → refusalBeforeNo10 (withKept kept v) e n ≡ refusalBeforeNo10 v e n
+  pub unread : (m : Market) (kept : List TimedPrice) → effectOf m (withKept kept v) e ≡ effectOf m v e
   pub noPause : (rs : List Report) → step v e n .answer ≡ gives rs → otherReports rs ≡ rs
   pub none : v.kept ≡ [] → step v e n .venue .kept ≡ []
 

@@ -5,7 +5,6 @@ use mathlib.Core.List.{List}
 use lib.Dec.{T}
 use lib.ListN.{length, getD}
 use Rattle.numbers.specs.SevenBit.{Put}
-use Rattle.prices.specs.declared.TimedPrice.{TimedPrice}
 use Rattle.prices.specs.Prices.{isStep}
 use Rattle.prices.specs.Pause.{mostKept, timesInOrder}
 use Rattle.book.specs.declared.Order.{Order}
@@ -75,17 +74,13 @@ pub record DoesEffect (w w′ b b′ : List ℕ) (at : ℕ) (x : Effect) (end st
   pub does : Does w w′ b b′ at (x .orders) (x .reports) end
   pub stamped : stamp ≡ x.stamp
 
--- the venue in another market, with other orders, with other kept prices, and at the end of an accepted event
+-- the venue in another market, with other orders, and at the end of an accepted event; `withKept` of the claims has other kept prices
 abbrev pub inMarket : Market → Venue → Venue
 inMarket m v = record { market = m; orders = v.orders; kept = v.kept; lastId = v.lastId; lastStamp = v.lastStamp; acceptedEvents = v.acceptedEvents }
 
 abbrev pub withOrders : List Order → Venue → Venue
 withOrders os v =
     record { market = v.market; orders = os; kept = v.kept; lastId = v.lastId; lastStamp = v.lastStamp; acceptedEvents = v.acceptedEvents }
-
-abbrev pub withKept : List TimedPrice → Venue → Venue
-withKept kept v =
-    record { market = v.market; orders = v.orders; kept = kept; lastId = v.lastId; lastStamp = v.lastStamp; acceptedEvents = v.acceptedEvents }
 
 abbrev pub finished : ℕ → ℕ → Venue → Venue
 finished id stamp v =
