@@ -138,7 +138,7 @@ pub record TimedAsTape (v : Venue) (x : TimedPrice) (n : ℕ) : Type 0 where
 abbrev pub TimedTapesAsTapes : Type 0
 TimedTapesAsTapes = (v : Venue) (x : TimedPrice) (n : ℕ) → TimedAsTape v x n
 
--- "A venue without timed prices behaves as before"
+-- A venue without timed prices behaves as before
 
 -- the conditions of a venue record without those of kept prices, and an event that is judged by them
 abbrev pub soundBeforeNo10 : Venue → Bool
