@@ -30,12 +30,13 @@ use Rattle.engine.specs.rules.Refusals.{refuseUnless, firstOf, refusalOf
 use Rattle.engine.specs.rules.Run.{Step, stepUnless, step, Call, Run, run}
 use Rattle.engine.specs.rules.Layout.{venueOf}
 use Rattle.engine.specs.claims.Calls.{AppliedCall, Chain}
-use Rattle.engine.specs.claims.Pauses.{dayAfter, dayAnswered, dayFrom, otherReports, TimeRefused, Looked, AllLooked, PausesByPlainLook, CallsByPlainLook, PausesByPlainLookInCalls, TimedAsTape, TimedTapesAsTapes, withKept, soundBeforeNo10, refusalBeforeNo10, Untimed, UntimedEventsAsBefore}
+use Rattle.engine.specs.claims.Pauses.{dayAfter, dayAnswered, dayFrom, otherReports, TimeRefused, Looked, AllLooked, PausesByPlainLook, CallsByPlainLook, PausesByPlainLookInCalls, TimedAsTape, TimedTapesAsTapes, withKept, soundBeforeNo10, refusalBeforeNo10, Untimed, UntimedEventsAsBefore, watchedStep, TimedCallsAsTapes, stepBeforeNo10, UntimedCallsAsBefore}
 use Rattle.engine.proofs.demand3.MarketLaws.{pause-by}
-use Rattle.engine.proofs.demand3.CallLaws.{callOf, fresh-run}
-use Rattle.engine.proofs.refinement.OpeningLaws.{opening-known, opening-gives, opened-book, opened-venue}
+use Rattle.engine.proofs.demand3.CallLaws.{callOf, accepted-call, fresh-run}
+use Rattle.engine.proofs.refinement.OpeningLaws.{opening-known, opening-gives, opened-book, opened-venue, step-in}
 use Rattle.engine.proofs.refinement.RefusalLaws.{terms-by, codes-by, owner-by, place-by, NotRefused, none-known}
 use Rattle.engine.proofs.refinement.RefuseLaws.{first-nothing}
+use Rattle.engine.proofs.requests.WordStepLaws.{in-words, call-does}
 use Rattle.engine.proofs.requests.BookReportLaws.{work-each, pass-each}
 
 -- no event but a timed price reports 7
@@ -256,10 +257,15 @@ module _ (v : Venue) (x : TimedPrice) (n : ℕ) where
 
   timed-as-tape : TimedAsTape v x n
   unfolding step stepUnless effectOf
-  timed-as-tape = record { refused = refused-as-tape; answer = λ h. rw (h, tape-accepted h) refl; venue = λ h. rw (h, tape-accepted h) refl }
+  timed-as-tape = record { refused = refused-as-tape; accepted = λ h. rw (h, tape-accepted h) refl }
 
 pub timed-tapes-as-tapes : TimedTapesAsTapes
 timed-tapes-as-tapes = timed-as-tape
+
+pub timed-calls-as-tapes : TimedCallsAsTapes
+timed-calls-as-tapes w x b count w′ b′ a =
+    let c = accepted-call a in
+    call-does a (step-in w (timedTape x) (length b) (c .0) ∙ timed-as-tape (venueOf w) x (length b) .accepted (c .1) ∙ ap (watchedStep x (venueOf w .kept)) (sym (step-in w (tape (x .price)) (length b) (c .0))))
 
 -- every other event
 
@@ -319,3 +325,7 @@ untimed-events-as-before v e n u =
       noPause = unless-no-pause v e u (refusal v e n);
       none = unless-none v e u (refusal v e n);
     }
+
+pub untimed-calls-as-before : UntimedCallsAsBefore
+untimed-calls-as-before w e b answer w′ b′ a u t =
+    call-does a (in-words (λ (x y : Step). x ≡ y) w e (length b) (stepBeforeNo10 (venueOf w) e (length b)) (untimed-events-as-before (venueOf w) e (length b) u .same t) refl)

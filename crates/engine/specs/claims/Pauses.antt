@@ -7,11 +7,12 @@ use mathlib.Core.List.{List, [], _∷_, _++_, foldl, map}
 use mathlib.Core.Option.{Option, none, some}
 use lib.Dec.{T, leb, ltb}
 use lib.ListN.{length}
-use Rattle.numbers.specs.Tests.{conj, every}
+use Rattle.numbers.specs.Tests.{pick, conj, every}
 use Rattle.numbers.specs.Answers.{Outcome, gives, refuses}
 use Rattle.prices.specs.declared.TimedPrice.{TimedPrice}
 use Rattle.prices.specs.Prices.{isStep, legal}
 use Rattle.prices.specs.Pause.{within, keeping, mostKept, lastTime, soundKept}
+use Rattle.book.specs.rules.Words.{isBook}
 use Rattle.book.specs.rules.Sound.{idsRise, stampsDiffer, soundOrder}
 use Rattle.engine.specs.declared.Market.{Market}
 use Rattle.engine.specs.declared.Event.{Event}
@@ -21,8 +22,8 @@ use Rattle.engine.specs.rules.Venue.{Venue, opening, pauseReport, effect
 use Rattle.engine.specs.rules.Sound.{mostOrders, mostEvents, headerConditions}
 use Rattle.engine.specs.rules.Refusals.{refuseUnless, firstOf, refusalOfTime, refusalOfKind, leastBuffer, refusal}
 use Rattle.engine.specs.rules.Run.{Step, stepUnless, step, Call, Answered, Run, run}
-use Rattle.engine.specs.rules.Layout.{venueOf, openedWords}
-use Rattle.engine.specs.claims.Calls.{AppliedCall, Chain, answeredOf}
+use Rattle.engine.specs.rules.Layout.{venueOf, openedWords, refusedLayout, stepIn}
+use Rattle.engine.specs.claims.Calls.{Applied, CallDoes, AppliedCall, Chain, answeredOf}
 
 -- "Over demand 3's lists report 7 is exactly what a plain look at all accepted timed prices of the day within those 300 seconds gives"
 
@@ -129,14 +130,27 @@ abbrev pub inFront : List Report → Outcome (List Report) → Outcome (List Rep
 inFront first (gives rs) = gives (first ++ rs)
 inFront first (refuses n) = refuses n
 
+-- a step with report 7 in front, if there is one, after which the price is kept; kept are those before it
+abbrev pub watchedStep : TimedPrice → List TimedPrice → Step → Step
+watchedStep x kept s =
+    record {
+      answer = inFront (pauseReport (x .price) (within (x .time) kept)) (s .answer);
+      venue = withKept (keeping (x .time) (x .price) kept) (s .venue);
+    }
+
 -- a timed price is refused as its tape price is, then for its time; accepted, it does what its tape price does, with report 7 in front, and is kept
 pub record TimedAsTape (v : Venue) (x : TimedPrice) (n : ℕ) : Type 0 where
   pub refused : refusal v (timedTape x) n ≡ firstOf (refusal v (tape (x .price)) n) (refusalOfTime (v .kept) (x .time))
-  pub answer : refusal v (timedTape x) n ≡ none → step v (timedTape x) n .answer ≡ inFront (pauseReport (x .price) (within (x .time) (v .kept))) (step v (tape (x .price)) n .answer)
-  pub venue : refusal v (timedTape x) n ≡ none → step v (timedTape x) n .venue ≡ withKept (keeping (x .time) (x .price) (v .kept)) (step v (tape (x .price)) n .venue)
+  pub accepted : refusal v (timedTape x) n ≡ none → step v (timedTape x) n ≡ watchedStep x (v .kept) (step v (tape (x .price)) n)
 
 abbrev pub TimedTapesAsTapes : Type 0
 TimedTapesAsTapes = (v : Venue) (x : TimedPrice) (n : ℕ) → TimedAsTape v x n
+
+-- the same of a call of apply on any words that accepts a timed price: its count, its report bytes and the venue after it
+abbrev pub TimedCallsAsTapes : Type 0
+TimedCallsAsTapes =
+    (w : List ℕ) (x : TimedPrice) (b : List ℕ) (count : ℕ) (w′ b′ : List ℕ) → Applied w (timedTape x) b (gives count) w′ b′ →
+    CallDoes (watchedStep x (venueOf w .kept) (stepIn w (tape (x .price)) (length b))) b (gives count) w′ b′
 
 -- A venue without timed prices behaves as before
 
@@ -157,6 +171,10 @@ refusalBeforeNo10 v e n =
 abbrev pub stepBeforeNo10 : Venue → Event → ℕ → Step
 stepBeforeNo10 v e n = stepUnless (refusalBeforeNo10 v e n) v e
 
+-- of the venue that words mean; words that are laid out as none are refused with 16
+abbrev pub stepInBeforeNo10 : List ℕ → Event → ℕ → Step
+stepInBeforeNo10 w e n = pick (isBook w) (stepBeforeNo10 (venueOf w) e n) (refusedLayout w)
+
 abbrev pub Untimed : Event → Type 0
 Untimed (entry e) = Unit {0}
 Untimed (cancel i) = Unit {0}
@@ -176,3 +194,9 @@ pub record UntimedAsBefore (v : Venue) (e : Event) (n : ℕ) : Type 0 where
 
 abbrev pub UntimedEventsAsBefore : Type 0
 UntimedEventsAsBefore = (v : Venue) (e : Event) (n : ℕ) → Untimed e → UntimedAsBefore v e n
+
+-- the same of every call of apply whose words keep sound prices, or none
+abbrev pub UntimedCallsAsBefore : Type 0
+UntimedCallsAsBefore =
+    (w : List ℕ) (e : Event) (b : List ℕ) (answer : Outcome ℕ) (w′ b′ : List ℕ) → Applied w e b answer w′ b′ → Untimed e →
+    T (soundKept (venueOf w .market .step) (venueOf w .kept)) → CallDoes (stepInBeforeNo10 w e (length b)) b answer w′ b′
