@@ -9,7 +9,7 @@ ghost use Rattle.book.specs.rules.Words.{bookWords};
 ghost use Rattle.book.specs.steps.BookSteps.{Book};
 ghost use Rattle.engine.specs.rules.Sound.{mostEvents};
 ghost use Rattle.engine.specs.steps.Memory.{Ordered, Becomes, inMarket, finished};
-ghost use Rattle.engine.specs.claims.Pauses.{withKept};
+ghost use Rattle.engine.specs.rules.Venue.{withKept};
 ghost use Rattle.engine.specs.rules.Layout.{venueOf};
 
 pub(crate) const CLOSE: usize = 1;

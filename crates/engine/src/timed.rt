@@ -22,7 +22,7 @@ ghost use Rattle.engine.specs.rules.Refusals.{refusalOfTime, refusalOfKi
 ghost use Rattle.engine.specs.rules.Answers.{refusedWith};
 ghost use Rattle.engine.specs.rules.Layout.{venueOf, soundWords};
 ghost use Rattle.engine.specs.steps.Memory.{Ordered, Becomes, MayAccept, Room, effectIn, Accepts, KeepsOrdered};
-ghost use Rattle.engine.specs.claims.Pauses.{withKept};
+ghost use Rattle.engine.specs.rules.Venue.{withKept};
 
 // The time of a new price: not before the last one of the day, and with at most 511 others kept.
 fn time_refusal(w: &[u32], time: u32) -> MayRefuse

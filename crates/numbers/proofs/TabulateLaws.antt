@@ -1,11 +1,11 @@
 -- Laws of tabulated lists: each says what holds of the list from what holds at each index. Assumes nothing.
-use Prim.Native.Nat.{ℕ, zero, suc, _≤_, _<_, zero-le, suc-le-suc}
-use native.Mathlib.Nat.{le-of-suc-le-suc, not-suc-le-zero}
+use Prim.Native.Nat.{ℕ, zero, suc, _+_, _-_, _≤_, _<_, zero-le, suc-le-suc}
+use native.Mathlib.Nat.{le-of-suc-le-suc, not-suc-le-zero, sub-zero, suc-sub-suc}
 use native.Mathlib.Decide.{decLt}
 use native.Mathlib.Omega.{arith}
-use mathlib.Core.Path.{_≡_, refl, ap, ap₂}
-use mathlib.Core.List.{_∷_}
-use lib.ListN.{length, getD}
+use mathlib.Core.Path.{_≡_, refl, ap, ap₂, _∙_}
+use mathlib.Core.List.{List, [], _∷_, _++_}
+use lib.ListN.{length, getD, drop}
 use Rattle.numbers.specs.Tests.{All}
 use Rattle.numbers.specs.Lists.{tabulate}
 
@@ -26,6 +26,20 @@ module _ {ℓ} {A : Type ℓ} where
   tabulate-ext zero f g h = refl
   tabulate-ext (suc n) f g h =
       ap₂ _∷_ (h zero (suc-le-suc zero-le)) (tabulate-ext n (λ k. f (suc k)) (λ k. g (suc k)) (λ i p. h (suc i) (suc-le-suc p)))
+
+-- tabulated lists from a position on, and with one more at the end
+
+module _ {ℓ} {A : Type ℓ} where
+  pub drop-tabulate : (k n : ℕ) (f : ℕ → A) → k ≤ n → drop k (tabulate n f) ≡ tabulate (n - k) (λ i. f (k + i))
+  drop-tabulate zero n f h = rw sub-zero (tabulate-ext n f (λ i. f (0 + i)) (λ i l. ap f (omega arith)))
+  drop-tabulate (suc k) zero f h = absurd (not-suc-le-zero h)
+  drop-tabulate (suc k) (suc n) f h =
+      rw suc-sub-suc
+      (drop-tabulate k n (λ i. f (suc i)) (le-of-suc-le-suc h) ∙ tabulate-ext (n - k) (λ i. f (suc (k + i))) (λ i. f (suc k + i)) (λ i l. ap f (omega arith)))
+
+  pub tabulate-last : (n : ℕ) (f : ℕ → A) → tabulate (suc n) f ≡ tabulate n f ++ f n ∷ []
+  tabulate-last zero f = refl
+  tabulate-last (suc n) f = ap (λ (l : List A). f zero ∷ l) (tabulate-last n (λ k. f (suc k)))
 
 -- what holds of each element, and what holds at each index
 

@@ -8,24 +8,10 @@ use mathlib.Core.List.{List, [], _∷_, _++_}
 use lib.ListN.{length, getD, set, drop, length-set, drop-of-length-le}
 use lib.Seq.{drop-cons, getD-set-same, getD-set-other}
 use Rattle.numbers.specs.Lists.{tabulate}
-use Rattle.numbers.proofs.TabulateLaws.{by-order, length-tabulate, getD-tabulate, tabulate-ext}
+use Rattle.numbers.proofs.TabulateLaws.{by-order, length-tabulate, getD-tabulate, tabulate-ext, drop-tabulate, tabulate-last}
 use Rattle.prices.specs.declared.TimedPrice.{TimedPrice}
 use Rattle.prices.specs.Pause.{mostKept, firstTime, lastTimeFrom, lastTime}
 use Rattle.prices.specs.KeptWords.{keptWords, priceAt, keptIn, highestOf, lowestOf, MovedDown, KeepsNew}
-
--- tabulated lists from a position on, and with one more at the end
-
-module _ {ℓ} {A : Type ℓ} where
-  drop-tabulate : (k n : ℕ) (f : ℕ → A) → k ≤ n → drop k (tabulate n f) ≡ tabulate (n - k) (λ i. f (k + i))
-  drop-tabulate zero n f h = rw sub-zero (tabulate-ext n f (λ i. f (0 + i)) (λ i l. ap f (omega arith)))
-  drop-tabulate (suc k) zero f h = absurd (not-suc-le-zero h)
-  drop-tabulate (suc k) (suc n) f h =
-      rw suc-sub-suc
-      (drop-tabulate k n (λ i. f (suc i)) (le-of-suc-le-suc h) ∙ tabulate-ext (n - k) (λ i. f (suc (k + i))) (λ i. f (suc k + i)) (λ i l. ap f (omega arith)))
-
-  tabulate-last : (n : ℕ) (f : ℕ → A) → tabulate (suc n) f ≡ tabulate n f ++ f n ∷ []
-  tabulate-last zero f = refl
-  tabulate-last (suc n) f = ap (λ (l : List A). f zero ∷ l) (tabulate-last n (λ k. f (suc k)))
 
 -- the prices in words
 

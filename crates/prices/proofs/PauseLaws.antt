@@ -10,7 +10,7 @@ use lib.Dec.{T, leb, leb→le, le→leb}
 use lib.ListN.{length, length-append}
 use borrow.Author.Tests.{le-leb, lt-leb}
 use Rattle.numbers.specs.Tests.{pick, every, any, All}
-use Rattle.numbers.proofs.TestLaws.{by-test, pick-yes, and-T, T-and, or-T, T-inl, T-inr, bool-ext, conj-T, T-conj, every-T, T-every, all-append, and-yes, and-no, and-false, and-last, not-yes, not-no, tests}
+use Rattle.numbers.proofs.TestLaws.{by-test, pick-yes, and-T, T-and, or-assoc, or-first, or-second, conj-T, T-conj, every-T, T-every, all-append, and-yes, and-no, and-false, and-last, not-yes, not-no, tests}
 use Rattle.prices.specs.declared.TimedPrice.{TimedPrice}
 use Rattle.prices.specs.Prices.{legal}
 use Rattle.prices.specs.Pause.{rollingSeconds, within, keeping, mostKept, someFall, someRise, direction, firstTime, lastTimeFrom, lastTime, timesInOrder, soundKept}
@@ -231,17 +231,6 @@ unfolding soundKept
 many-refused step xs h = rw (lt-leb (length xs) mostKept h)
 
 -- the direction by the range of the prices
-
-or-assoc : (a b c : Bool) → (a || (b || c)) ≡ ((a || b) || c)
-or-assoc true b c = refl
-or-assoc false b c = refl
-
--- one of two tests that follows from the other
-or-second : (a b : Bool) → (T a → T b) → (a || b) ≡ b
-or-second a b h = bool-ext (a || b) b (λ t. elim (or-T a b t) [ inl x ↦ h x | inr x ↦ x ]) (T-inr a b)
-
-or-first : (a b : Bool) → (T b → T a) → (a || b) ≡ a
-or-first a b h = bool-ext (a || b) a (λ t. elim (or-T a b t) [ inl x ↦ x | inr x ↦ h x ]) (T-inl a b)
 
 either-falls : (p a b : ℕ) → (leb (10 * p) (9 * a) || leb (10 * p) (9 * b)) ≡ leb (10 * p) (9 * max a b)
 either-falls p a b =

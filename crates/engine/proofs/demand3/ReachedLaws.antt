@@ -17,7 +17,7 @@ use Rattle.engine.specs.rules.Sound.{sound}
 use Rattle.engine.specs.rules.Refusals.{refuseUnless, firstOf, refusalOfOwner, refusalOfEntry, refusalOfKind, refusal}
 use Rattle.engine.specs.rules.Run.{stepUnless, step, Call, run}
 use Rattle.engine.specs.claims.Reached.{ReachedIsSound, StampsBounded}
-use Rattle.engine.proofs.refinement.RefusalLaws.{terms-by, codes-by, owner-by, place-by, time-by, NotRefused, Unless, refusal-known}
+use Rattle.engine.proofs.refinement.RefusalLaws.{by-refusal, by-first, terms-by, codes-by, owner-by, place-by, time-by, NotRefused, Unless, refusal-known}
 use Rattle.prices.proofs.PriceLaws.{no-bid}
 use Rattle.prices.proofs.PauseLaws.{none-sound}
 use Rattle.engine.proofs.refinement.OpeningLaws.{opening-known}
@@ -66,9 +66,7 @@ Refused none = Unit {0}
 Refused (some n) = OfSound n
 
 refuseUnless-not : (b : Bool) (n : ℕ) (later : Option ℕ) → (T (not b) → OfSound n) → Refused later → Refused (refuseUnless b n later)
-unfolding refuseUnless
-refuseUnless-not true n later h k = k
-refuseUnless-not false n later h k = h tt
+refuseUnless-not b n later h k = by-refusal Refused b n later h (λ t. k)
 
 -- the numbers of the refusals but 16
 abbrev other : ℕ → Bool
@@ -83,15 +81,10 @@ of-sound n h =
 refuseUnless-other : (b : Bool) (n : ℕ) (later : Option ℕ) → T (other n) → Refused later → Refused (refuseUnless b n later)
 refuseUnless-other b n later h = refuseUnless-not b n later (λ t. of-sound n h)
 
-firstOf-not : (r later : Option ℕ) → Refused r → Refused later → Refused (firstOf r later)
-unfolding firstOf
-firstOf-not none later h k = k
-firstOf-not (some n) later h k = h
-
 refusalOfEntry-not : (v : Venue) (e : Entry) (ofOwner : Option ℕ) → Refused ofOwner → Refused (refusalOfEntry v e ofOwner)
 unfolding refusalOfEntry
 refusalOfEntry-not v e ofOwner h =
-    firstOf-not _ _ (terms-by Refused tt (of-sound 3 tt) (of-sound 4 tt) (v.market.step) (e .price) (e .shares)) (firstOf-not _ _ (codes-by Refused tt (of-sound 18 tt) (of-sound 5 tt) (of-sound 19 tt) (of-sound 20 tt) e) (firstOf-not _ _ h (place-by Refused tt (of-sound 6 tt) (of-sound 7 tt) v e)))
+    by-first Refused _ _ (terms-by Refused tt (of-sound 3 tt) (of-sound 4 tt) (v.market.step) (e .price) (e .shares)) (by-first Refused _ _ (codes-by Refused tt (of-sound 18 tt) (of-sound 5 tt) (of-sound 19 tt) (of-sound 20 tt) e) (by-first Refused _ _ h (place-by Refused tt (of-sound 6 tt) (of-sound 7 tt) v e)))
 
 refusalOfKind-not : (v : Venue) (e : Event) → Refused (refusalOfKind v e)
 unfolding refusalOfKind

@@ -27,7 +27,7 @@ use Rattle.engine.specs.rules.Venue.{Venue, effectOfCancel, cancelledAtE
 use Rattle.engine.specs.rules.Sound.{mostEvents}
 use Rattle.engine.specs.rules.Records.{reportBytes, reportsBytes}
 use Rattle.engine.specs.steps.Memory.{Ordered, Becomes, Room, inMarket, withOrders, finished, effectIn, MayAccept, Accepts}
-use Rattle.engine.specs.claims.Pauses.{withKept}
+use Rattle.engine.specs.rules.Venue.{withKept}
 use Rattle.engine.specs.rules.Layout.{venueOf}
 use Rattle.engine.proofs.refinement.StepLaws.{reports-one, reports-append}
 use Rattle.engine.proofs.refinement.MemoryLaws.{becomes-then, becomes-as, holds-becomes}

@@ -21,7 +21,7 @@ use Rattle.engine.specs.rules.Venue.{Venue}
 use Rattle.engine.specs.rules.Reports.{Report}
 use Rattle.engine.specs.claims.Calls.{SameSpare}
 use Rattle.engine.specs.steps.Memory.{Ordered, Becomes, Does, inMarket, withOrders, finished}
-use Rattle.engine.specs.claims.Pauses.{withKept}
+use Rattle.engine.specs.rules.Venue.{withKept}
 use Rattle.engine.specs.rules.Layout.{venueOf}
 
 -- a venue by its parts

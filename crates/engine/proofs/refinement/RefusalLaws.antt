@@ -24,12 +24,21 @@ use Rattle.engine.specs.rules.Sound.{mostOrders, mostEvents, venueCondit
 use Rattle.engine.specs.rules.Refusals.{refuseUnless, firstOf, refusalOfTerms, refusalOfOtherCodes, refusalOfCodes, refusalOfOwner, refusalOfPlace, refusalOfEntry, rests, refusalOfTime, refusalOfKind, leastBuffer, refusal}
 use Rattle.engine.specs.steps.Steps.{HasPlace, EntryHasPlace}
 
+-- what holds of the refusal where the test fails, and of what comes later where it doesn't
+pub by-refusal : (P : Option ℕ → Type 0) (b : Bool) (n : ℕ) (later : Option ℕ) → (T (not b) → P (some n)) → (T b → P later) → P (refuseUnless b n later)
+unfolding refuseUnless
+by-refusal P true n later h k = k tt
+by-refusal P false n later h k = h tt
+
+pub by-first : (P : Option ℕ → Type 0) (r later : Option ℕ) → P r → P later → P (firstOf r later)
+unfolding firstOf
+by-first P none later h k = k
+by-first P (some n) later h k = h
+
 -- what holds of none and of each refusal of a part of an entry's chain holds of the part
 module _ (P : Option ℕ → Type 0) (allowed : P none) where
   refused-or : (b : Bool) (n : ℕ) (later : Option ℕ) → P (some n) → P later → P (refuseUnless b n later)
-  unfolding refuseUnless
-  refused-or true n later h k = k
-  refused-or false n later h k = h
+  refused-or b n later h k = by-refusal P b n later (λ t. h) (λ t. k)
 
   pub terms-by : P (some 3) → P (some 4) → (step price shares : ℕ) → P (refusalOfTerms step price shares)
   unfolding refusalOfTerms

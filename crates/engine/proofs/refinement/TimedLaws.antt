@@ -27,7 +27,7 @@ use Rattle.engine.specs.rules.Refusals.{refusalOfTime, refusalOfKind}
 use Rattle.engine.specs.rules.Records.{reportsBytes}
 use Rattle.engine.specs.rules.Layout.{venueOf}
 use Rattle.engine.specs.steps.Memory.{Ordered, KeepsOrdered, Becomes, Room, effectIn, MayAccept, AcceptsFrom, Accepts}
-use Rattle.engine.specs.claims.Pauses.{withKept}
+use Rattle.engine.specs.rules.Venue.{withKept}
 use Rattle.engine.proofs.refinement.RefusalLaws.{TimedAllowed, Unless, sound-step, refusalOfKind-known}
 use Rattle.engine.proofs.refinement.RefuseLaws.{refuse-yes, refuse-no}
 use Rattle.engine.proofs.refinement.MemoryLaws.{spare-then, becomes-then, becomes-as, new-kept}

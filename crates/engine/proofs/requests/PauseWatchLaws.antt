@@ -24,17 +24,17 @@ use Rattle.engine.specs.declared.Event.the-variants.{Entry as entry, Can
 use Rattle.engine.specs.rules.Market.{marketAfter}
 use Rattle.engine.specs.rules.Reports.{Report, pauseTriggered}
 use Rattle.engine.specs.rules.Working.{work}
-use Rattle.engine.specs.rules.Venue.{Venue, opened, entering, effectOfEntry, effectOfCancel, thePass, restrictionReport, effectOfTape, pauseReport, cancelledAtEnd, effectOfDayEnd, effectOf, keptAfter}
+use Rattle.engine.specs.rules.Venue.{Venue, withKept, opened, entering, effectOfEntry, effectOfCancel, thePass, restrictionReport, effectOfTape, pauseReport, cancelledAtEnd, effectOfDayEnd, effectOf, keptAfter}
 use Rattle.engine.specs.rules.Sound.{mostEvents, sound}
 use Rattle.engine.specs.rules.Refusals.{refuseUnless, firstOf, refusalOfOwner, refusalOfPlace, refusalOfEntry, refusalOfTime, refusalOfKind, leastBuffer, refusal}
 use Rattle.engine.specs.rules.Run.{Step, stepUnless, step, Call, Run, run}
 use Rattle.engine.specs.rules.Layout.{venueOf}
 use Rattle.engine.specs.claims.Calls.{AppliedCall, Chain}
-use Rattle.engine.specs.claims.Pauses.{dayAfter, dayAnswered, dayFrom, otherReports, TimeRefused, Looked, AllLooked, PausesByPlainLook, CallsByPlainLook, PausesByPlainLookInCalls, TimedAsTape, TimedTapesAsTapes, withKept, soundBeforeNo10, refusalBeforeNo10, Untimed, UntimedEventsAsBefore, watchedStep, TimedCallsAsTapes, stepBeforeNo10, UntimedCallsAsBefore}
+use Rattle.engine.specs.claims.Pauses.{dayAfter, dayAnswered, dayFrom, otherReports, TimeRefused, Looked, AllLooked, PausesByPlainLook, CallsByPlainLook, PausesByPlainLookInCalls, TimedAsTape, TimedTapesAsTapes, soundBeforeNo10, refusalBeforeNo10, Untimed, UntimedEventsAsBefore, watchedStep, TimedCallsAsTapes, stepBeforeNo10, UntimedCallsAsBefore, timedBy}
 use Rattle.engine.proofs.demand3.MarketLaws.{pause-by}
 use Rattle.engine.proofs.demand3.CallLaws.{callOf, accepted-call, fresh-run}
 use Rattle.engine.proofs.refinement.OpeningLaws.{opening-known, opening-gives, opened-book, opened-venue, step-in}
-use Rattle.engine.proofs.refinement.RefusalLaws.{terms-by, codes-by, owner-by, place-by, NotRefused, none-known}
+use Rattle.engine.proofs.refinement.RefusalLaws.{by-refusal, by-first, terms-by, codes-by, owner-by, place-by, NotRefused, none-known}
 use Rattle.engine.proofs.refinement.RefuseLaws.{first-nothing}
 use Rattle.engine.proofs.requests.WordStepLaws.{in-words, call-does}
 use Rattle.engine.proofs.requests.BookReportLaws.{work-each, pass-each}
@@ -108,7 +108,7 @@ more-watched {kept} {day} x h l =
 -- 22 and 23 are given for the time alone
 abbrev ForTime : Event → List TimedPrice → Option ℕ → Type 0
 ForTime e day none = Unit {0}
-ForTime e day (some n) = TimeRefused e day n
+ForTime e day (some n) = TimeRefused (timedBy e) day n
 
 abbrev other : ℕ → Bool
 other n = not (eqb n 22) && not (eqb n 23)
@@ -118,32 +118,16 @@ not-time n h =
     let r = and-T (not (eqb n 22)) _ h in
     (λ z. subst (λ (k : ℕ). T (not (eqb k 22))) z (r .0), λ z. subst (λ (k : ℕ). T (not (eqb k 23))) z (r .1))
 
-other-refused : (e : Event) (day : List TimedPrice) (n : ℕ) → T (other n) → TimeRefused e day n
-other-refused (entry e) day n h = not-time n h
-other-refused (cancel i) day n h = not-time n h
-other-refused (bid b) day n h = not-time n h
-other-refused (tape p) day n h = not-time n h
-other-refused (dayEnd c) day n h = not-time n h
-other-refused (ownedEntry e k) day n h = not-time n h
-other-refused (timedTape x) day n h = let r = not-time n h in (λ z. absurd (r .0 z), λ z. absurd (r .1 z))
-
--- what holds of the refusal where the test fails, and of what comes later where it doesn't
-by-refusal : (P : Option ℕ → Type 0) (b : Bool) (n : ℕ) (later : Option ℕ) → (T (not b) → P (some n)) → (T b → P later) → P (refuseUnless b n later)
-unfolding refuseUnless
-by-refusal P true n later h k = k tt
-by-refusal P false n later h k = h tt
-
-by-first : (P : Option ℕ → Type 0) (r later : Option ℕ) → P r → P later → P (firstOf r later)
-unfolding firstOf
-by-first P none later h k = k
-by-first P (some n) later h k = h
+other-refused : (x : Option TimedPrice) (day : List TimedPrice) (n : ℕ) → T (other n) → TimeRefused x day n
+other-refused none day n h = not-time n h
+other-refused (some x) day n h = let r = not-time n h in (λ z. absurd (r .0 z), λ z. absurd (r .1 z))
 
 module _ (v : Venue) (day : List TimedPrice) where
   entry-for-time : (e : Event) (x : Entry) (ofOwner : Option ℕ) → ForTime e day ofOwner → ForTime e day (refusalOfEntry v x ofOwner)
   unfolding refusalOfEntry
   entry-for-time e x ofOwner h =
       let P : Option ℕ → Type 0 = ForTime e day in
-      let o : (n : ℕ) → T (other n) → P (some n) = other-refused e day in
+      let o : (n : ℕ) → T (other n) → P (some n) = other-refused (timedBy e) day in
       by-first P _ _ (terms-by P tt (o 3 tt) (o 4 tt) (v.market.step) (x .price) (x .shares)) (by-first P _ _ (codes-by P tt (o 18 tt) (o 5 tt) (o 19 tt) (o 20 tt) x) (by-first P _ _ h (place-by P tt (o 6 tt) (o 7 tt) v x)))
 
   time-for-time : (x : TimedPrice) → Watched (v .kept) day → ForTime (timedTape x) day (refusalOfTime (v .kept) (x .time))
@@ -166,13 +150,13 @@ module _ (v : Venue) (day : List TimedPrice) where
   kind-for-time (tape p) h = by-refusal (ForTime (tape p) day) _ 3 none (λ t. not-time 3 tt) (λ t. tt)
   kind-for-time (dayEnd c) h = by-refusal (ForTime (dayEnd c) day) _ 3 none (λ t. not-time 3 tt) (λ t. tt)
   kind-for-time (ownedEntry e k) h = entry-for-time (ownedEntry e k) e (refusalOfOwner k) (owner-by (ForTime (ownedEntry e k) day) tt (not-time 21 tt) k)
-  kind-for-time (timedTape x) h = by-refusal (ForTime (timedTape x) day) _ 3 _ (λ t. other-refused (timedTape x) day 3 tt) (λ t. time-for-time x h)
+  kind-for-time (timedTape x) h = by-refusal (ForTime (timedTape x) day) _ 3 _ (λ t. other-refused (some x) day 3 tt) (λ t. time-for-time x h)
 
   refused-for-time : (e : Event) (n : ℕ) → Watched (v .kept) day → ForTime e day (refusal v e n)
   unfolding refusal
   refused-for-time e n h =
       let P : Option ℕ → Type 0 = ForTime e day in
-      let o : (n : ℕ) → T (other n) → P (some n) = other-refused e day in
+      let o : (n : ℕ) → T (other n) → P (some n) = other-refused (timedBy e) day in
       by-refusal P _ 16 _ (λ t. o 16 tt) (λ t. by-refusal P _ 1 _ (λ t. o 1 tt) (λ t. by-refusal P _ 2 _ (λ t. o 2 tt) (λ t. kind-for-time e h)))
 
 -- one event

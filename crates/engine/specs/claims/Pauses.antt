@@ -18,7 +18,7 @@ use Rattle.engine.specs.declared.Market.{Market}
 use Rattle.engine.specs.declared.Event.{Event}
 use Rattle.engine.specs.declared.Event.the-variants.{Entry as entry, Cancel as cancel, Bid as bid, Tape as tape, DayEnd as dayEnd, OwnedEntry as ownedEntry, TimedTape as timedTape}
 use Rattle.engine.specs.rules.Reports.{Report, accepted, executed, cancelled, repriced, restrictionStarts, dayEnded, pauseTriggered}
-use Rattle.engine.specs.rules.Venue.{Venue, opening, pauseReport, effectOf}
+use Rattle.engine.specs.rules.Venue.{Venue, withKept, opening, pauseReport, effectOf}
 use Rattle.engine.specs.rules.Sound.{mostOrders, mostEvents, headerConditions}
 use Rattle.engine.specs.rules.Refusals.{refuseUnless, firstOf, refusalOfTime, refusalOfKind, leastBuffer, refusal}
 use Rattle.engine.specs.rules.Run.{Step, stepUnless, step, Call, Answered, Run, run}
@@ -26,6 +26,16 @@ use Rattle.engine.specs.rules.Layout.{venueOf, openedWords, refusedLayou
 use Rattle.engine.specs.claims.Calls.{Applied, CallDoes, AppliedCall, Chain, answeredOf}
 
 -- "Over demand 3's lists report 7 is exactly what a plain look at all accepted timed prices of the day within those 300 seconds gives"
+
+-- the timed price that an event is
+abbrev pub timedBy : Event → Option TimedPrice
+timedBy (entry e) = none
+timedBy (cancel i) = none
+timedBy (bid b) = none
+timedBy (tape p) = none
+timedBy (dayEnd c) = none
+timedBy (ownedEntry e k) = none
+timedBy (timedTape x) = some x
 
 -- the accepted timed prices of the day, the earliest first; none is ever dropped before the day ends
 abbrev pub dayAfter : Event → List TimedPrice → List TimedPrice
@@ -46,14 +56,9 @@ abbrev pub dayFrom : List TimedPrice → List Answered → List TimedPrice
 dayFrom day xs = foldl (λ (d : List TimedPrice) (x : Answered). dayAnswered d (x .event) (x .answer)) day xs
 
 -- the reports 7 that an accepted event is to have
-abbrev pub pausesDue : Event → List TimedPrice → List Report
-pausesDue (entry e) day = []
-pausesDue (cancel i) day = []
-pausesDue (bid b) day = []
-pausesDue (tape p) day = []
-pausesDue (dayEnd c) day = []
-pausesDue (ownedEntry e k) day = []
-pausesDue (timedTape x) day = pauseReport (x .price) (within (x .time) day)
+abbrev pub pausesDue : Option TimedPrice → List TimedPrice → List Report
+pausesDue none day = []
+pausesDue (some x) day = pauseReport (x .price) (within (x .time) day)
 
 -- the reports of other kinds than 7
 abbrev pub otherReports : List Report → List Report
@@ -67,30 +72,20 @@ otherReports (dayEnded k ∷ rs) = dayEnded k ∷ otherReports rs
 otherReports (pauseTriggered d p ∷ rs) = otherReports rs
 
 -- an accepted timed price isn't before the last one of the day, and fewer than 512 of the day are within the 300 seconds before it
-abbrev pub InTime : Event → List TimedPrice → Type 0
-InTime (entry e) day = Unit {0}
-InTime (cancel i) day = Unit {0}
-InTime (bid b) day = Unit {0}
-InTime (tape p) day = Unit {0}
-InTime (dayEnd c) day = Unit {0}
-InTime (ownedEntry e k) day = Unit {0}
-InTime (timedTape x) day = (lastTime day ≤ x.time) × (length (within (x .time) day) < mostKept)
+abbrev pub TimeTaken : Option TimedPrice → List TimedPrice → Type 0
+TimeTaken none day = Unit {0}
+TimeTaken (some x) day = (lastTime day ≤ x.time) × (length (within (x .time) day) < mostKept)
 
 -- 22 and 23 are given to timed prices alone: "time before the last one of the day is 22, and a 513th kept price is 23"
-abbrev pub TimeRefused : Event → List TimedPrice → ℕ → Type 0
-TimeRefused (entry e) day n = (n ≡ 22 → ⊥) × (n ≡ 23 → ⊥)
-TimeRefused (cancel i) day n = (n ≡ 22 → ⊥) × (n ≡ 23 → ⊥)
-TimeRefused (bid b) day n = (n ≡ 22 → ⊥) × (n ≡ 23 → ⊥)
-TimeRefused (tape p) day n = (n ≡ 22 → ⊥) × (n ≡ 23 → ⊥)
-TimeRefused (dayEnd c) day n = (n ≡ 22 → ⊥) × (n ≡ 23 → ⊥)
-TimeRefused (ownedEntry e k) day n = (n ≡ 22 → ⊥) × (n ≡ 23 → ⊥)
-TimeRefused (timedTape x) day n =
+abbrev pub TimeRefused : Option TimedPrice → List TimedPrice → ℕ → Type 0
+TimeRefused none day n = (n ≡ 22 → ⊥) × (n ≡ 23 → ⊥)
+TimeRefused (some x) day n =
     (n ≡ 22 → x.time < lastTime day) × (n ≡ 23 → (lastTime day ≤ x.time) × (mostKept ≤ length (within (x .time) day)))
 
 -- one event with its answer: its reports 7 are those that are due, and come before all others
 abbrev pub Looked : List TimedPrice → Event → Outcome (List Report) → Type 0
-Looked day e (gives rs) = (rs ≡ pausesDue e day ++ otherReports rs) × InTime e day
-Looked day e (refuses n) = TimeRefused e day n
+Looked day e (gives rs) = (rs ≡ pausesDue (timedBy e) day ++ otherReports rs) × TimeTaken (timedBy e) day
+Looked day e (refuses n) = TimeRefused (timedBy e) day n
 
 abbrev pub AllLooked : List TimedPrice → List Answered → Type 0
 AllLooked day [] = Unit {0}
@@ -119,11 +114,6 @@ PausesByPlainLookInCalls =
     (s close : ℕ) → T (isStep s) → T (legal s close) → (cs : List AppliedCall) (w′ : List ℕ) → Chain (openedWords s close) cs w′ → CallsByPlainLook cs w′
 
 -- "does all that a tape event does"
-
--- the venue with other kept prices
-abbrev pub withKept : List TimedPrice → Venue → Venue
-withKept kept v =
-    record { market = v.market; orders = v.orders; kept = kept; lastId = v.lastId; lastStamp = v.lastStamp; acceptedEvents = v.acceptedEvents }
 
 -- what a step reports with these reports in front
 abbrev pub inFront : List Report → Outcome (List Report) → Outcome (List Report)
@@ -175,16 +165,15 @@ stepBeforeNo10 v e n = stepUnless (refusalBeforeNo10 v e n) v e
 abbrev pub stepInBeforeNo10 : List ℕ → Event → ℕ → Step
 stepInBeforeNo10 w e n = pick (isBook w) (stepBeforeNo10 (venueOf w) e n) (refusedLayout w)
 
-abbrev pub Untimed : Event → Type 0
-Untimed (entry e) = Unit {0}
-Untimed (cancel i) = Unit {0}
-Untimed (bid b) = Unit {0}
-Untimed (tape p) = Unit {0}
-Untimed (dayEnd c) = Unit {0}
-Untimed (ownedEntry e k) = Unit {0}
-Untimed (timedTape x) = ⊥
+-- an event that is no timed price
+abbrev pub NoPrice : Option TimedPrice → Type 0
+NoPrice none = Unit {0}
+NoPrice (some x) = ⊥
 
--- an event of another kind is judged and done as before, whatever prices are kept, and looks at none of them; where none is kept, none is afterwards
+abbrev pub Untimed : Event → Type 0
+Untimed e = NoPrice (timedBy e)
+
+-- an event of another kind is judged and done as before, whatever sound prices are kept, and looks at none of them; where none is kept, none is afterwards
 pub record UntimedAsBefore (v : Venue) (e : Event) (n : ℕ) : Type 0 where
   pub same : T (soundKept (v.market.step) (v .kept)) → step v e n ≡ stepBeforeNo10 v e n
   pub judged : (kept : List TimedPrice) → refusalBeforeNo10 (withKept kept v) e n ≡ refusalBeforeNo10 v e n

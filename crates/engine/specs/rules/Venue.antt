@@ -28,6 +28,11 @@ pub record Venue : Type 0 where
   pub lastStamp : ℕ
   pub acceptedEvents : ℕ
 
+-- the venue with other kept prices
+abbrev pub withKept : List TimedPrice → Venue → Venue
+withKept kept v =
+    record { market = v.market; orders = v.orders; kept = kept; lastId = v.lastId; lastStamp = v.lastStamp; acceptedEvents = v.acceptedEvents }
+
 -- "Fresh: phase 0, bid 0, no orders, last id, last stamp and accepted events 0", and no kept prices
 unfoldable pub opened : ℕ → ℕ → Venue
 opened step close = record { market = openingMarket step close; orders = []; kept = []; lastId = 0; lastStamp = 0; acceptedEvents = 0 }

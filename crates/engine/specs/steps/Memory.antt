@@ -74,7 +74,7 @@ pub record DoesEffect (w w′ b b′ : List ℕ) (at : ℕ) (x : Effect) (end st
   pub does : Does w w′ b b′ at (x .orders) (x .reports) end
   pub stamped : stamp ≡ x.stamp
 
--- the venue in another market, with other orders, and at the end of an accepted event; `withKept` of the claims has other kept prices
+-- the venue in another market, with other orders, and at the end of an accepted event
 abbrev pub inMarket : Market → Venue → Venue
 inMarket m v = record { market = m; orders = v.orders; kept = v.kept; lastId = v.lastId; lastStamp = v.lastStamp; acceptedEvents = v.acceptedEvents }
 
