@@ -45,7 +45,7 @@ static inline uint32_t venue_count(uint32_t answer)
     return answer % 65536;
 }
 
-/* Makes the first VENUE_WORDS words a fresh venue with this step, after a day with this close: restriction off, no bid, no orders. Whatever stood there
+/* Makes the first VENUE_WORDS words a fresh venue with this step, after a day with this close: restriction off, no bid, no orders, no kept prices. Whatever stood there
    is gone. The step stays the venue's: every later price, bid and close is judged by it. The answer is 0, or a refusal, which changes no word:
    16  the run has fewer than VENUE_WORDS words
    17  the step is neither VENUE_CENT nor VENUE_HALF_CENT; the close isn't looked at
@@ -75,7 +75,7 @@ uint32_t venue_open(uint32_t *words, size_t words_length, uint32_t step, uint32_
     7  256 orders rest, and the entry needs a place: its life is 0, and it is no market order, unless one of a short while the restriction is on and a bid
        is present. Every other entry is taken into a full book too: it trades, and what is left of it is cancelled
     8  no order rests under the id to cancel
-   22  the time of a timed tape price is before that of the last one of the day
+   22  the time of a timed tape price is before that of the last one accepted on the day
    23  512 timed tape prices of the day that were accepted before it have a time of at least its own less 300 */
 uint32_t venue_apply(uint32_t *words, size_t words_length, const uint8_t *record, size_t record_length, uint8_t *reports,
                      size_t reports_length);

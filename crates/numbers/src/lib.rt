@@ -1,4 +1,4 @@
-// Numbers in the seven-bit form, and their sizes: the lowest layer.
+// Numbers in the seven-bit form, and the larger and smaller of two: the lowest layer.
 mod count;
 pub mod read;
 pub mod sizes;

@@ -1,4 +1,4 @@
--- What writing header words and taking orders out does to the venue of the words. Assumes nothing.
+-- What writing header words, taking orders out and keeping a price does to the venue of the words. Assumes nothing.
 use Prim.Native.Nat.{ℕ, _+_, _≤_, _<_}
 use native.Mathlib.Omega.{arith}
 use mathlib.Core.Path.{_≡_, refl, sym, ap, _∙_, subst}

@@ -528,7 +528,7 @@ keptVenue s kept =
 abbrev pub inOneSecond : ℕ → List TimedPrice
 inOneSecond n = replicate n (timedAt 1_000 100_000)
 
--- from 512 of them: the time before the price's place, the price before the time; 300 seconds later there is no place, 301 seconds later there is
+-- from 512 of them: 22 before 23, 3 before 22; 300 seconds later there is no place, 301 seconds later there is
 abbrev pub fullWatch : List Answered
 fullWatch =
     isRefused (timed 1_000 100_000) 23 ∷ isRefused (timed 999 100_000) 22 ∷ isRefused (timed 999 0) 3 ∷ isRefused (timed 1_300 100_000) 23

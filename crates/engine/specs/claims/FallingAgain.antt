@@ -103,6 +103,7 @@ pub record Falls : Type 0 where
 abbrev pub noFalls : ℕ → Falls
 noFalls close = record { close = close; today = false; dayBefore = false }
 
+-- a tape price p, of either kind
 abbrev pub pricedAt : ℕ → Falls → Falls
 pricedAt p f = record { close = f.close; today = f .today || triggers (f .close) p; dayBefore = f.dayBefore }
 
@@ -128,6 +129,7 @@ fallsFrom f xs = foldl (λ (g : Falls) (x : Answered). fallsAnswered g (x .event
 abbrev pub phaseBy : Falls → ℕ
 phaseBy f = pick (f .today) 1 (pick (f .dayBefore) 2 0)
 
+-- report 5 for the first price of a day that meets the trigger
 abbrev pub firstFall : ℕ → Falls → List Report
 firstFall p f = pick (not (f .today) && triggers (f .close) p) (restrictionStarts ∷ []) []
 

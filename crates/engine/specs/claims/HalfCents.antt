@@ -29,8 +29,8 @@ use Rattle.engine.specs.rules.Sound.{mostOrders, mostEvents}
 use Rattle.engine.specs.rules.Refusals.{refuseUnless, firstOf, refusalOfCodes, refusalOfOwner, refusalOfPlace, refusalOfTime, rests, leastBuffer, refusal}
 use Rattle.engine.specs.rules.Run.{step}
 
--- Before No. 2: the parts of an event that look at a price, a bid or a permitted price, with document 01's; codes, owner, place, and kept prices and
--- their times are those of now
+-- Before No. 2: the parts of an event that look at a price, a bid or a permitted price, with document 01's; codes, owner and place are those of
+-- now, and so is the test of kept prices (No. 10), at a step of 100
 
 -- the conditions of a venue record (16)
 abbrev pub orderBefore : ℕ → ℕ → Order → Bool
