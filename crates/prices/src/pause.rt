@@ -22,6 +22,9 @@ pub const KEPT_WORDS: usize = 2 * MOST_KEPT;
 
 const ROLLING_SECONDS: u32 = 300;
 
+// The highest number of 32 bits.
+const HIGHEST_NUMBER: u32 = 4_294_967_295;
+
 const FALL: u32 = 1;
 
 const RISE: u32 = 2;
@@ -42,7 +45,7 @@ fn price_at(w: &[u32], at: usize, i: usize) -> u32
 }
 
 // Whether each of n prices is legal and no time is before the one in front of it.
-fn prices_in_order(w: &[u32], at: usize, n: usize, step: u32) -> bool
+fn legal_in_order(w: &[u32], at: usize, n: usize, step: u32) -> bool
     requires { ⌜ (at + keptWords ≤ length (now w)) × (n ≤ mostKept) × T (isStep step) ⌝ }
     ensures { λ r. ⌜ r ≡ (every (λ (x : TimedPrice). legal step (x .price)) (keptIn (now (w .entry)) at n) && timesInOrder 0 (keptIn (now (w .entry)) at n)) ⌝ }
 {
@@ -98,7 +101,7 @@ pub fn kept_sound(w: &[u32], at: usize, count: u32, step: u32) -> bool
     if n > MOST_KEPT {
         return false;
     }
-    if !prices_in_order(w, at, n, step) {
+    if !legal_in_order(w, at, n, step) {
         return false;
     }
     span_sound(w, at, n)
@@ -135,7 +138,7 @@ fn price_range(w: &[u32], at: usize, from: usize, n: usize) -> PriceRange
     requires { ⌜ (at + keptWords ≤ length (now w)) × (from ≤ n) × (n ≤ mostKept) ⌝ }
     ensures { λ r. ⌜ (r .lowest ≡ lowestOf 4294967295 (drop from (keptIn (now (w .entry)) at n))) × (r .highest ≡ highestOf 0 (drop from (keptIn (now (w .entry)) at n))) ⌝ }
 {
-    let mut lowest = 4_294_967_295;
+    let mut lowest = HIGHEST_NUMBER;
     let mut highest = 0;
     let mut i = from;
     while i < n {
@@ -165,7 +168,7 @@ pub fn direction(w: &[u32], at: usize, from: usize, n: usize, price: u32) -> u32
 }
 
 // Moves n words, behind by others, to the index at.
-fn move_down(w: &mut [u32], at: usize, by: usize, n: usize)
+fn shift_down(w: &mut [u32], at: usize, by: usize, n: usize)
     requires { ⌜ at + (by + n) ≤ length (now w) ⌝ }
     ensures { λ _. ⌜ MovedDown (now (w .entry)) (now (w .exit)) at by n ⌝ }
 {
@@ -182,7 +185,7 @@ pub fn keep(w: &mut [u32], at: usize, from: usize, n: usize, new: TimedPrice)
     ensures { λ _. ⌜ KeepsNew (now (w .entry)) (now (w .exit)) at from n new ⌝ }
 {
     let left = n - from;
-    move_down(w, at, 2 * from, 2 * left);
+    shift_down(w, at, 2 * from, 2 * left);
     w[at + 2 * left] = new.time;
     w[at + 2 * left + 1] = new.price;
 }

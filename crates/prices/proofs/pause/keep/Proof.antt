@@ -9,14 +9,14 @@ use Rattle.prices.proofs.pause.keep.Tie as tie
 sub-left : tie.Need-sub-left
 sub-left c = search needs
 
-mul-move-down : tie.Need-mul-move-down
-mul-move-down c = search needs
+mul-shift-down : tie.Need-mul-shift-down
+mul-shift-down c = search needs
 
-mul-move-down-2 : tie.Need-mul-move-down-2
-mul-move-down-2 c = search needs
+mul-shift-down-2 : tie.Need-mul-shift-down-2
+mul-shift-down-2 c = search needs
 
-move-down-requires : tie.Need-move-down-requires
-move-down-requires c κs = search needs
+shift-down-requires : tie.Need-shift-down-requires
+shift-down-requires c κs = search needs
 
 mul-w : tie.Need-mul-w
 mul-w c = search needs
@@ -44,7 +44,7 @@ mul-w-4 c = search needs
 
 slice-write-w-2 : tie.Need-slice-write-w-2
 slice-write-w-2 c =
-    let m = c .before .before .move-down in
+    let m = c .before .before .shift-down in
     lt-length-set (m .last .0) _ _ (omega (arith, m .ensures .size))
 
 same-length : tie.Need-same-length
@@ -53,16 +53,16 @@ same-length c = search needs
 returns : tie.Need-returns
 returns c =
     let p = c .before .before .before .before .before .pre in
-    keeps-new _ _ _ _ _ _ (p .1) (p .3) (p .0) (c .before .before .move-down .ensures)
+    keeps-new _ _ _ _ _ _ (p .1) (p .3) (p .0) (c .before .before .shift-down .ensures)
 
 pub keep-spec : {M : Type 1} → statement M
 keep-spec =
     tie.close
     (tie.spec
     sub-left
-    mul-move-down
-    mul-move-down-2
-    move-down-requires
+    mul-shift-down
+    mul-shift-down-2
+    shift-down-requires
     mul-w
     add-w
     mul-w-2

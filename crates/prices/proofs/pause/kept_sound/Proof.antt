@@ -16,14 +16,14 @@ returns c =
     let a = c .before .before .args in
     many-refused (a .step) (keptIn (a .w .now) (a .at) (a .count)) (omega (arith, c .if1 .taken, kept-length (a .w .now) (a .at) (a .count)))
 
-prices-in-order-requires : tie.Need-prices-in-order-requires
-prices-in-order-requires c κs = search needs
+legal-in-order-requires : tie.Need-legal-in-order-requires
+legal-in-order-requires c κs = search needs
 
 few : (c : tie.Else1) → let a = c .before .before .args in length (keptIn (a .w .now) (a .at) (a .count)) ≤ mostKept
 few c = let a = c .before .before .args in omega (arith, c .if1 .left, kept-length (a .w .now) (a .at) (a .count))
 
 returns-2 : tie.Need-returns-2
-returns-2 c = order-refused _ _ (few (c .before .before)) (c .before .prices-in-order .ensures) (c .if2 .taken)
+returns-2 c = order-refused _ _ (few (c .before .before)) (c .before .legal-in-order .ensures) (c .if2 .taken)
 
 span-sound-requires : tie.Need-span-sound-requires
 span-sound-requires c κs = search needs
@@ -31,7 +31,7 @@ span-sound-requires c κs = search needs
 returns-3 : tie.Need-returns-3
 returns-3 c =
     let p = c .before .before in
-    c .span-sound .ensures ∙ order-taken _ _ (few (p .before)) (p .prices-in-order .ensures) (c .before .if2 .left)
+    c .span-sound .ensures ∙ order-taken _ _ (few (p .before)) (p .legal-in-order .ensures) (c .before .if2 .left)
 
 pub kept-sound-spec : {M : Type 1} → statement M
-kept-sound-spec = tie.close (tie.spec returns prices-in-order-requires returns-2 span-sound-requires returns-3)
+kept-sound-spec = tie.close (tie.spec returns legal-in-order-requires returns-2 span-sound-requires returns-3)

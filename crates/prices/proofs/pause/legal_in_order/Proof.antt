@@ -1,4 +1,4 @@
--- The loop of `prices_in_order`: whether the prices from i on are in order gives whether all are. Assumes nothing.
+-- The loop of `legal_in_order`: whether the prices from i on are in order gives whether all are. Assumes nothing.
 use Prim.Native.Nat.{_-_, _≤_}
 use native.Mathlib.Omega.{arith}
 use mathlib.Core.Path.{_≡_, refl, sym, ap, _∙_}
@@ -9,8 +9,8 @@ use Rattle.prices.specs.Prices.{legal}
 use Rattle.prices.specs.KeptWords.{priceAt, keptIn}
 use Rattle.prices.proofs.PauseLaws.{inOrder, in-order-falls, in-order-illegal, in-order-next, in-order-none}
 use Rattle.prices.proofs.KeptWordLaws.{kept-next, kept-over}
-use Rattle.prices.proofs.pause.prices_in_order.Statement.{statement}
-use Rattle.prices.proofs.pause.prices_in_order.Tie as tie
+use Rattle.prices.proofs.pause.legal_in_order.Statement.{statement}
+use Rattle.prices.proofs.pause.legal_in_order.Tie as tie
 
 abbrev Inv-loop : tie.InvT-loop
 Inv-loop w at n step before₀ i₀ before i = (inOrder step before (drop i (keptIn w at n)) ≡ inOrder step 0 (keptIn w at n)) × (i ≤ n)
@@ -68,8 +68,8 @@ returns-3 c =
     let l = c .before .loop in
     sym (ap (inOrder _ (l .before)) (kept-over _ _ _ (l .i) (c .loop-test .left)) ∙ in-order-none _ _) ∙ l .inv .0
 
-pub prices-in-order-spec : {M : Type 1} → statement M
-prices-in-order-spec =
+pub legal-in-order-spec : {M : Type 1} → statement M
+legal-in-order-spec =
     tie.close
     (tie.spec
     Inv-loop

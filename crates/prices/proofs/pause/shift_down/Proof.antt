@@ -1,12 +1,12 @@
--- The loop of `move_down`: j words are moved. Assumes nothing.
+-- The loop of `shift_down`: j words are moved. Assumes nothing.
 use borrow.Author.Needs.{needs}
 use Prim.Native.Nat.{_-_, _≤_}
 use mathlib.Core.Path.{_≡_}
 use native.Mathlib.Omega.{arith}
 use Rattle.prices.specs.KeptWords.{MovedDown}
 use Rattle.prices.proofs.KeptWordLaws.{moved-none, moved-more}
-use Rattle.prices.proofs.pause.move_down.Statement.{statement}
-use Rattle.prices.proofs.pause.move_down.Tie as tie
+use Rattle.prices.proofs.pause.shift_down.Statement.{statement}
+use Rattle.prices.proofs.pause.shift_down.Tie as tie
 
 abbrev Inv-loop : tie.InvT-loop
 Inv-loop w₀ at by n j₀ w j = MovedDown w₀ w at by j × (j ≤ n)
@@ -53,8 +53,8 @@ same-length c = c .before .loop .inv .0 .size
 returns : tie.Need-returns Inv-loop μ-loop
 returns c = let e : c .before .loop .j ≡ c .before .before .args .n = omega arith in rw e at (c .before .loop .inv .0)
 
-pub move-down-spec : {M : Type 1} → statement M
-move-down-spec =
+pub shift-down-spec : {M : Type 1} → statement M
+shift-down-spec =
     tie.close
     (tie.spec
     Inv-loop
