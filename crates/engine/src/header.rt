@@ -58,7 +58,7 @@ pub(crate) fn kept_count(w: &[u32]) -> usize
     words::header_word(w, KEPT) as usize
 }
 
-// Counts another number of kept prices: the first of those that the words have.
+// Sets the count of kept prices: they are then the first so many in the words.
 pub(crate) fn set_kept_count(w: &mut [u32], count: u32)
     requires { ⌜ Ordered (now w) ⌝ }
     ensures { λ _. ⌜ Becomes (now (w .entry)) (now (w .exit)) (withKept (keptIn (now (w .entry)) bookWords count) (venueOf (now (w .entry)))) ⌝ }

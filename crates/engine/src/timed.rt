@@ -61,7 +61,7 @@ fn report_pause(reports: &mut [u8], direction: u32, price: u32) -> usize
     report::write_pause_triggered(reports, 0, direction, price)
 }
 
-// Keeps the n prices from a position on and a new one behind them.
+// Keeps those of n prices from a position on, and a new one behind them.
 fn keep_price(w: &mut [u32], from: usize, n: usize, x: TimedPrice)
     requires { ⌜ Ordered (now w) × (n ≡ length (venueOf (now w) .kept)) × (from ≤ n) × (n ≤ mostKept) × (n - from < mostKept) ⌝ }
     requires { ⌜ within (x .time) (venueOf (now w) .kept) ≡ drop from (venueOf (now w) .kept) ⌝ }

@@ -167,7 +167,7 @@ pub fn direction(w: &[u32], at: usize, from: usize, n: usize, price: u32) -> u32
     0
 }
 
-// Moves n words, behind by others, to the index at.
+// Moves the n words from index at + by on down to index at.
 fn shift_down(w: &mut [u32], at: usize, by: usize, n: usize)
     requires { ⌜ at + (by + n) ≤ length (now w) ⌝ }
     ensures { λ _. ⌜ MovedDown (now (w .entry)) (now (w .exit)) at by n ⌝ }

@@ -88,7 +88,7 @@ record Watched (kept day : List TimedPrice) : Type 0 where
 none-watched : Watched [] []
 none-watched = record { keeps = sym (within-none _); last = refl }
 
--- a new time sees of them what it sees of the day
+-- at a new time those within 300 seconds among them are those among the day's
 seen : {kept day : List TimedPrice} (t : ℕ) → Watched kept day → lastTime kept ≤ t → within t kept ≡ within t day
 seen {kept} {day} t h l = ap (within t) (h .keeps) ∙ within-within (lastTime day) t day (omega (arith, h .last, l))
 

@@ -479,7 +479,7 @@ timedAt t p = record { time = t; price = p }
 abbrev pub timed : ℕ → ℕ → Event
 timed t p = timedTape (timedAt t p)
 
--- two days of them; a price 300 seconds before is looked at, one 301 seconds before isn't; so is one of the same second; a refused one changes nothing
+-- two days of them; a price 300 seconds before, or of the same second, is looked at, one 301 seconds before isn't; a refused one changes nothing
 abbrev pub pauseDays : List Answered
 pauseDays =
     gets (timed 0 100_000) []

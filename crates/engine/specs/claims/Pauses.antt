@@ -165,11 +165,11 @@ stepBeforeNo10 v e n = stepUnless (refusalBeforeNo10 v e n) v e
 abbrev pub stepInBeforeNo10 : List ℕ → Event → ℕ → Step
 stepInBeforeNo10 w e n = pick (isBook w) (stepBeforeNo10 (venueOf w) e n) (refusedLayout w)
 
--- an event that is no timed price
 abbrev pub NoPrice : Option TimedPrice → Type 0
 NoPrice none = Unit {0}
 NoPrice (some x) = ⊥
 
+-- an event that is no timed price
 abbrev pub Untimed : Event → Type 0
 Untimed e = NoPrice (timedBy e)
 
@@ -184,7 +184,7 @@ pub record UntimedAsBefore (v : Venue) (e : Event) (n : ℕ) : Type 0 where
 abbrev pub UntimedEventsAsBefore : Type 0
 UntimedEventsAsBefore = (v : Venue) (e : Event) (n : ℕ) → Untimed e → UntimedAsBefore v e n
 
--- the same of every call of apply whose words keep sound prices, or none
+-- so it is judged and done by every call of apply whose words keep sound prices
 abbrev pub UntimedCallsAsBefore : Type 0
 UntimedCallsAsBefore =
     (w : List ℕ) (e : Event) (b : List ℕ) (answer : Outcome ℕ) (w′ b′ : List ℕ) → Applied w e b answer w′ b′ → Untimed e →

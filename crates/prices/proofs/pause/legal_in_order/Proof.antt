@@ -1,4 +1,4 @@
--- The loop of `legal_in_order`: whether the prices from i on are in order gives whether all are. Assumes nothing.
+-- The loop of `legal_in_order`: whether the prices from i on are legal and in order gives whether all are. Assumes nothing.
 use Prim.Native.Nat.{_-_, _≤_}
 use native.Mathlib.Omega.{arith}
 use mathlib.Core.Path.{_≡_, refl, sym, ap, _∙_}
