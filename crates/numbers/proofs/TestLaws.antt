@@ -2,11 +2,11 @@
 use Prim.Native.Nat.{ℕ}
 use native.Mathlib.Omega.{arith}
 use mathlib.Core.Path.{_≡_, refl, sym, _∙_, subst}
-use mathlib.Core.Bool.{Bool, true, false, not, _&&_, _||_}
+use mathlib.Core.Bool.{Bool, true, false, not, _&&_, _||_, or-false}
 use mathlib.Core.Logic.{_⊎_, inl, inr}
 use mathlib.Core.List.{List, [], _∷_, _++_, map}
 use lib.Dec.{T, eqb, leb→le, nleb→lt, eqb→eq, eqb-refl, not-T, T-not}
-use Rattle.numbers.specs.Tests.{pick, conj, every, All}
+use Rattle.numbers.specs.Tests.{pick, conj, every, any, All}
 
 -- what a choice gives, by its test
 
@@ -141,6 +141,15 @@ pub T-every : {A : Type 0} (f : A → Bool) (xs : List A) → All (λ (x : A). T
 unfolding every
 T-every f [] h = tt
 T-every f (x ∷ xs) h = T-and (f x) (every f xs) (h .0) (T-every f xs (h .1))
+
+-- a test of some element of a list, looked for one after another: b is whether one before the first passed
+pub any-next : {A : Type 0} {b′ t : Bool} (b : Bool) (f : A → Bool) (x : A) (xs : List A) → b′ ≡ (b || t) → t ≡ f x → (b′ || any f xs) ≡ (b || any f (x ∷ xs))
+unfolding any
+any-next b f x xs e h = rw (e, h) (sym (or-assoc b (f x) (any f xs)))
+
+pub any-none : {A : Type 0} (f : A → Bool) (b : Bool) → (b || any f []) ≡ b
+unfolding any
+any-none f b = or-false b
 
 -- equality tests
 

@@ -1,17 +1,20 @@
 -- Laws of kept prices in words: what stands at a position, words moved down, and a new price behind the others. Assumes nothing.
-use Prim.Native.Nat.{ℕ, zero, suc, _+_, _-_, _*_, _≤_, _<_, min, max}
+use Prim.Native.Nat.{ℕ, zero, suc, _+_, _-_, _*_, _≤_, _<_}
 use native.Mathlib.Nat.{le-of-suc-le-suc, not-suc-le-zero, sub-zero, suc-sub-suc}
 use native.Mathlib.Numerals.{add-one}
 use native.Mathlib.Omega.{arith}
 use mathlib.Core.Path.{_≡_, refl, sym, ap, ap₂, _∙_}
+use mathlib.Core.Bool.{Bool, _||_}
 use mathlib.Core.List.{List, [], _∷_, _++_}
 use lib.ListN.{length, getD, set, drop, length-set, drop-of-length-le}
 use lib.Seq.{drop-cons, getD-set-same, getD-set-other}
+use Rattle.numbers.specs.Tests.{any}
 use Rattle.numbers.specs.Lists.{tabulate}
+use Rattle.numbers.proofs.TestLaws.{any-next, any-none}
 use Rattle.numbers.proofs.TabulateLaws.{by-order, length-tabulate, getD-tabulate, tabulate-ext, drop-tabulate, tabulate-last}
 use Rattle.prices.specs.declared.TimedPrice.{TimedPrice}
 use Rattle.prices.specs.Pause.{mostKept, firstTime, lastTimeFrom, lastTime}
-use Rattle.prices.specs.KeptWords.{keptWords, priceAt, keptIn, highestOf, lowestOf, MovedDown, KeepsNew}
+use Rattle.prices.specs.KeptWords.{keptWords, priceAt, keptIn, MovedDown, KeepsNew}
 
 -- the prices in words
 
@@ -46,13 +49,13 @@ kept-next w at n i h =
 pub kept-over : (w : List ℕ) (at n i : ℕ) → n ≤ i → drop i (keptIn w at n) ≡ []
 kept-over w at n i h = drop-of-length-le (keptIn w at n) {i = i} (omega (arith, kept-length w at n))
 
--- the range with one price more
+-- whether some price from a position on passes a test: the one there or one behind it; b is whether one in front of it does
 
-pub lowest-next : (w : List ℕ) (at n i k : ℕ) {m p : ℕ} → i < n → p ≡ priceAt w at i .price → m ≡ min k p → lowestOf m (drop (i + 1) (keptIn w at n)) ≡ lowestOf k (drop i (keptIn w at n))
-lowest-next w at n i k h e q = rw (q, e) (sym (ap (lowestOf k) (kept-next w at n i h)))
+pub some-next : (f : TimedPrice → Bool) (w : List ℕ) (at n i : ℕ) (b : Bool) {b′ t : Bool} → i < n → b′ ≡ (b || t) → t ≡ f (priceAt w at i) → (b′ || any f (drop (i + 1) (keptIn w at n))) ≡ (b || any f (drop i (keptIn w at n)))
+some-next f w at n i b h e p = rw (kept-next w at n i h) (any-next b f (priceAt w at i) (drop (i + 1) (keptIn w at n)) e p)
 
-pub highest-next : (w : List ℕ) (at n i k : ℕ) {m p : ℕ} → i < n → p ≡ priceAt w at i .price → m ≡ max k p → highestOf m (drop (i + 1) (keptIn w at n)) ≡ highestOf k (drop i (keptIn w at n))
-highest-next w at n i k h e q = rw (q, e) (sym (ap (highestOf k) (kept-next w at n i h)))
+pub some-over : (f : TimedPrice → Bool) (w : List ℕ) (at n i : ℕ) (b : Bool) → n ≤ i → (b || any f (drop i (keptIn w at n))) ≡ b
+some-over f w at n i b h = rw (kept-over w at n i h) (any-none f b)
 
 -- the first and the last
 
@@ -70,7 +73,11 @@ unfolding keptIn lastTime
 kept-last w at zero h = absurd (not-suc-le-zero h)
 kept-last w at (suc n) h = last-tabulate 0 n (priceAt w at) ∙ ap (λ (i : ℕ). priceAt w at i .time) (omega arith)
 
--- words moved down: none yet, and one more
+-- words moved down: by none, none yet, and one more
+
+pub moved-nowhere : (w : List ℕ) (at by n : ℕ) → by ≡ 0 → MovedDown w w at by n
+moved-nowhere w at by n e =
+    record { size = refl; below = λ j h. refl; moved = λ j h. ap (λ (i : ℕ). getD w i 0) (omega arith); above = λ j h. refl }
 
 pub moved-none : (w : List ℕ) (at by : ℕ) → MovedDown w w at by 0
 moved-none w at by =

@@ -1,20 +1,17 @@
 -- Laws of timed prices: those that a new time keeps, their order, the conditions of a venue record, and the direction of a price. Assumes nothing.
-use Prim.Native.Nat.{ℕ, suc, _-_, _*_, _≤_, _<_, zero-le, min, max}
+use Prim.Native.Nat.{ℕ, suc, _+_, _-_, _*_, _≤_, _<_, zero-le}
 use native.Mathlib.Omega.{arith}
-use native.Mathlib.Decide.{decLe}
 use mathlib.Core.Path.{_≡_, refl, sym, ap, _∙_}
-use mathlib.Core.Bool.{Bool, true, false, not, _&&_, _||_, or-false}
+use mathlib.Core.Bool.{Bool, true, false, not, _&&_}
 use mathlib.Core.List.{List, [], _∷_, _++_}
-use mathlib.Core.Logic.{inl, inr}
-use lib.Dec.{T, leb, leb→le, le→leb}
+use lib.Dec.{T, leb, ltb, leb→le, le→leb}
 use lib.ListN.{length, length-append}
 use borrow.Author.Tests.{le-leb, lt-leb}
 use Rattle.numbers.specs.Tests.{pick, every, any, All}
-use Rattle.numbers.proofs.TestLaws.{by-test, pick-yes, and-T, T-and, or-assoc, or-first, or-second, conj-T, T-conj, every-T, T-every, all-append, and-yes, and-no, and-false, and-last, not-yes, not-no, tests}
+use Rattle.numbers.proofs.TestLaws.{by-test, pick-yes, and-T, T-and, bool-ext, conj-T, T-conj, every-T, T-every, all-append, and-yes, and-no, and-false, and-last, not-yes, not-no, tests}
 use Rattle.prices.specs.declared.TimedPrice.{TimedPrice}
 use Rattle.prices.specs.Prices.{legal}
 use Rattle.prices.specs.Pause.{rollingSeconds, within, keeping, mostKept, someFall, someRise, direction, firstTime, lastTimeFrom, lastTime, timesInOrder, soundKept}
-use Rattle.prices.specs.KeptWords.{highestOf, lowestOf}
 
 abbrev legalAt : ℕ → TimedPrice → Bool
 legalAt step x = legal step (x .price)
@@ -230,40 +227,26 @@ pub many-refused : (step : ℕ) (xs : List TimedPrice) → mostKept < length xs 
 unfolding soundKept
 many-refused step xs h = rw (lt-leb (length xs) mostKept h)
 
--- the direction by the range of the prices
+-- the direction by tests of each price, against the highest price without a fall and the highest with a rise
 
-either-falls : (p a b : ℕ) → (leb (10 * p) (9 * a) || leb (10 * p) (9 * b)) ≡ leb (10 * p) (9 * max a b)
-either-falls p a b =
-    elim (decLe a b) [
-      | yes h ↦ or-second (leb (10 * p) (9 * a)) (leb (10 * p) (9 * b)) (λ t. le→leb (10 * p) (9 * b) (omega (tests, t))) ∙ ap (λ (m : ℕ). leb (10 * p) (9 * m)) (omega arith)
-      | no h ↦ or-first (leb (10 * p) (9 * a)) (leb (10 * p) (9 * b)) (λ t. le→leb (10 * p) (9 * a) (omega (tests, t))) ∙ ap (λ (m : ℕ). leb (10 * p) (9 * m)) (omega arith)
-    ]
+abbrev pub isFall : ℕ → TimedPrice → Bool
+isFall p x = leb (10 * p) (9 * x.price)
 
-either-rises : (p a b : ℕ) → (leb (11 * a) (10 * p) || leb (11 * b) (10 * p)) ≡ leb (11 * min a b) (10 * p)
-either-rises p a b =
-    elim (decLe a b) [
-      | yes h ↦ or-first (leb (11 * a) (10 * p)) (leb (11 * b) (10 * p)) (λ t. le→leb (11 * a) (10 * p) (omega (tests, t))) ∙ ap (λ (m : ℕ). leb (11 * m) (10 * p)) (omega arith)
-      | no h ↦ or-second (leb (11 * a) (10 * p)) (leb (11 * b) (10 * p)) (λ t. le→leb (11 * b) (10 * p) (omega (tests, t))) ∙ ap (λ (m : ℕ). leb (11 * m) (10 * p)) (omega arith)
-    ]
+abbrev pub isRise : ℕ → TimedPrice → Bool
+isRise p x = leb (11 * x.price) (10 * p)
 
-falls-by-highest : (p k : ℕ) (xs : List TimedPrice) → (leb (10 * p) (9 * k) || someFall p xs) ≡ leb (10 * p) (9 * highestOf k xs)
-unfolding someFall any
-falls-by-highest p k [] = or-false (leb (10 * p) (9 * k))
-falls-by-highest p k (x ∷ xs) =
-    or-assoc (leb (10 * p) (9 * k)) _ _ ∙ ap (λ (b : Bool). b || someFall p xs) (either-falls p k (x .price)) ∙ falls-by-highest p (max k (x .price)) xs
+pub unfallen-bound : (p r : ℕ) → 9 * r < 10 * p → 10 * p ≤ 9 * (r + 1) → (q : ℕ) → leb (10 * p) (9 * q) ≡ ltb r q
+unfallen-bound p r h k q =
+    bool-ext _ _ (λ t. le→leb (suc r) q (omega (tests, t))) (λ t. le→leb (10 * p) (9 * q) (omega (tests, t)))
 
-rises-by-lowest : (p k : ℕ) (xs : List TimedPrice) → (leb (11 * k) (10 * p) || someRise p xs) ≡ leb (11 * lowestOf k xs) (10 * p)
-unfolding someRise any
-rises-by-lowest p k [] = or-false (leb (11 * k) (10 * p))
-rises-by-lowest p k (x ∷ xs) =
-    or-assoc (leb (11 * k) (10 * p)) _ _ ∙ ap (λ (b : Bool). b || someRise p xs) (either-rises p k (x .price)) ∙ rises-by-lowest p (min k (x .price)) xs
+pub risen-bound : (p r : ℕ) → 11 * r ≤ 10 * p → 10 * p < 11 * (r + 1) → (q : ℕ) → leb (11 * q) (10 * p) ≡ leb q r
+risen-bound p r h k q =
+    bool-ext _ _ (λ t. le→leb q r (omega (tests, t))) (λ t. le→leb (11 * q) (10 * p) (omega (tests, t)))
 
-pub direction-by-range : (p low high : ℕ) (xs : List TimedPrice) → 0 < p → p ≤ 4294967295 → low ≡ lowestOf 4294967295 xs → high ≡ highestOf 0 xs → pick (leb (10 * p) (9 * high)) 1 (pick (leb (11 * low) (10 * p)) 2 0) ≡ direction p xs
-unfolding direction
-direction-by-range p low high xs h k el eh =
-    let f : someFall p xs ≡ leb (10 * p) (9 * highestOf 0 xs) = ap (λ (b : Bool). b || someFall p xs) (sym (lt-leb (10 * p) (9 * 0) (omega arith))) ∙ falls-by-highest p 0 xs in
-    let r : someRise p xs ≡ leb (11 * lowestOf 4294967295 xs) (10 * p) = ap (λ (b : Bool). b || someRise p xs) (sym (lt-leb (11 * 4294967295) (10 * p) (omega arith))) ∙ rises-by-lowest p 4294967295 xs in
-    rw (f, r, el, eh)
+-- the direction, by what was found of falls and of rises
+pub direction-found : {d : ℕ} {f r : Bool} (p : ℕ) (xs : List TimedPrice) → d ≡ pick f 1 (pick r 2 0) → f ≡ any (isFall p) xs → r ≡ any (isRise p) xs → d ≡ direction p xs
+unfolding direction someFall someRise
+direction-found p xs e ef er = rw (e, ef, er)
 
 pub direction-few : (p : ℕ) (xs : List TimedPrice) → direction p xs ≤ 2
 unfolding direction

@@ -1,5 +1,5 @@
--- Kept prices in a run of words, two words each, time and price, from an index on, their range, and what the step that keeps a new one leaves. Assumes nothing.
-use Prim.Native.Nat.{ℕ, _+_, _-_, _*_, _≤_, _<_, min, max}
+-- Kept prices in a run of words, two words each, time and price, from an index on, and what the step that keeps a new one leaves. Assumes nothing.
+use Prim.Native.Nat.{ℕ, _+_, _-_, _*_, _≤_, _<_}
 use mathlib.Core.Path.{_≡_}
 use mathlib.Core.List.{List, [], _∷_, _++_}
 use lib.ListN.{length, getD, drop}
@@ -17,15 +17,6 @@ priceAt w at i = record { time = getD w (at + 2 * i) 0; price = getD w (at + 2 *
 
 unfoldable pub keptIn : List ℕ → ℕ → ℕ → List TimedPrice
 keptIn w at n = tabulate n (priceAt w at)
-
--- the highest and the lowest of k and the prices of a list
-abbrev pub highestOf : ℕ → List TimedPrice → ℕ
-highestOf k [] = k
-highestOf k (x ∷ xs) = highestOf (max k (x .price)) xs
-
-abbrev pub lowestOf : ℕ → List TimedPrice → ℕ
-lowestOf k [] = k
-lowestOf k (x ∷ xs) = lowestOf (min k (x .price)) xs
 
 -- n words from index at + by on moved down by by words: what is in front of at, and from at + n on, stays
 pub record MovedDown (w w′ : List ℕ) (at by n : ℕ) : Type 0 where

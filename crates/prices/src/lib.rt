@@ -36,12 +36,6 @@ pub enum WatchAnswer {
     NotStep,
 }
 
-// The lowest and the highest of some prices.
-pub struct PriceRange {
-    pub lowest: u32,
-    pub highest: u32,
-}
-
 // A tape price with its time in whole seconds.
 pub struct TimedPrice {
     pub time: u32,

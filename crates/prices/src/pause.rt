@@ -1,19 +1,17 @@
 // The five-minute pause watch: timed prices kept in lent words, two words each, time and price, from an index on.
-use crate::PriceRange;
 use crate::TimedPrice;
 use crate::increments;
-use numbers::sizes;
 ghost use mathlib.Core.Path.{_≡_};
-ghost use Prim.Native.Nat.{_+_, _-_, _*_, _<_, _≤_};
-ghost use mathlib.Core.Bool.{_&&_};
-ghost use lib.Dec.{T, leb};
+ghost use Prim.Native.Nat.{ℕ, _+_, _-_, _*_, _<_, _≤_};
+ghost use mathlib.Core.Bool.{_&&_, _||_};
+ghost use lib.Dec.{T, leb, ltb};
 ghost use lib.ListN.{length, drop};
-ghost use Rattle.numbers.specs.Tests.{every};
+ghost use Rattle.numbers.specs.Tests.{pick, every};
 ghost use Rattle.prices.specs.declared.TimedPrice.{TimedPrice};
-ghost use Rattle.prices.specs.Prices.{isStep, legal};
+ghost use Rattle.prices.specs.Prices.{highest, isStep, legal};
 ghost use Rattle.prices.specs.Pause;
 ghost use Rattle.prices.specs.Pause.{rollingSeconds, mostKept, within, firstTime, lastTime, timesInOrder, soundKept};
-ghost use Rattle.prices.specs.KeptWords.{keptWords, priceAt, keptIn, highestOf, lowestOf, MovedDown, KeepsNew};
+ghost use Rattle.prices.specs.KeptWords.{keptWords, priceAt, keptIn, MovedDown, KeepsNew};
 
 // The most prices that are kept, and their words.
 pub const MOST_KEPT: usize = 512;
@@ -21,9 +19,6 @@ pub const MOST_KEPT: usize = 512;
 pub const KEPT_WORDS: usize = 2 * MOST_KEPT;
 
 const ROLLING_SECONDS: u32 = 300;
-
-// The highest number of 32 bits.
-const HIGHEST_NUMBER: u32 = 4_294_967_295;
 
 const FALL: u32 = 1;
 
@@ -133,45 +128,72 @@ pub fn first_within(w: &[u32], at: usize, n: usize, time: u32) -> usize
     n
 }
 
-// The range of those of n prices from a position on; no price is outside of the numbers that it begins with.
-fn price_range(w: &[u32], at: usize, from: usize, n: usize) -> PriceRange
-    requires { ⌜ (at + keptWords ≤ length (now w)) × (from ≤ n) × (n ≤ mostKept) ⌝ }
-    ensures { λ r. ⌜ (r .lowest ≡ lowestOf 4294967295 (drop from (keptIn (now (w .entry)) at n))) × (r .highest ≡ highestOf 0 (drop from (keptIn (now (w .entry)) at n))) ⌝ }
+// The highest earlier price of which a new one is no fall, and the highest of which it is a rise, as 10 × p ≤ 9 × q just where q is above the one and
+// 11 × q ≤ 10 × p just where q isn't above the other: one comparison for each kept price, without a product.
+fn last_unfallen(price: u32) -> u32
+    requires { ⌜ (0 < price) × (price ≤ highest) ⌝ }
+    ensures { λ r. ⌜ ((q : ℕ) → leb (10 * price) (9 * q) ≡ ltb r q) ⌝ }
 {
-    let mut lowest = HIGHEST_NUMBER;
-    let mut highest = 0;
-    let mut i = from;
-    while i < n {
-        let price = price_at(w, at, i);
-        lowest = sizes::smaller(lowest, price);
-        highest = sizes::larger(highest, price);
-        i += 1;
-    }
-    PriceRange { lowest, highest }
+    (10 * price - 1) / 9
 }
 
-// The direction of a new price against those of n prices from a position on: 1 for a fall, else 2 for a rise, 0 for neither. Some price meets a test just where
-// the highest, or the lowest, does.
-pub fn direction(w: &[u32], at: usize, from: usize, n: usize, price: u32) -> u32
-    requires { ⌜ (at + keptWords ≤ length (now w)) × (from ≤ n) × (n ≤ mostKept) × (0 < price) ⌝ }
-    ensures { λ r. ⌜ r ≡ Pause.direction price (drop from (keptIn (now (w .entry)) at n)) ⌝ }
+fn last_risen(price: u32) -> u32
+    requires { ⌜ price ≤ highest ⌝ }
+    ensures { λ r. ⌜ ((q : ℕ) → leb (11 * q) (10 * price) ≡ leb q r) ⌝ }
 {
-    let range = price_range(w, at, from, n);
-    let tenfold = 10 * (price as u64);
-    if tenfold <= 9 * (range.highest as u64) {
+    10 * price / 11
+}
+
+fn either(a: bool, b: bool) -> bool
+    ensures { λ r. ⌜ r ≡ (a || b) ⌝ }
+{
+    if a {
+        return true;
+    }
+    b
+}
+
+// The direction by whether there is a fall, and whether there is a rise.
+fn direction_of(falls: bool, rises: bool) -> u32
+    ensures { λ r. ⌜ r ≡ pick falls 1 (pick rises 2 0) ⌝ }
+{
+    if falls {
         return FALL;
     }
-    if 11 * (range.lowest as u64) <= tenfold {
+    if rises {
         return RISE;
     }
     0
 }
 
-// Moves the n words from index at + by on down to index at.
+// The direction of a new price against those of n prices from a position on: 1 for a fall, else 2 for a rise, 0 for neither. No price ends the look, so that
+// the compiler takes several at a time.
+pub fn direction(w: &[u32], at: usize, from: usize, n: usize, price: u32) -> u32
+    requires { ⌜ (at + keptWords ≤ length (now w)) × (from ≤ n) × (n ≤ mostKept) × (0 < price) × (price ≤ highest) ⌝ }
+    ensures { λ r. ⌜ r ≡ Pause.direction price (drop from (keptIn (now (w .entry)) at n)) ⌝ }
+{
+    let unfallen = last_unfallen(price);
+    let risen = last_risen(price);
+    let mut falls = false;
+    let mut rises = false;
+    let mut i = from;
+    while i < n {
+        let earlier = price_at(w, at, i);
+        falls = either(falls, earlier > unfallen);
+        rises = either(rises, earlier <= risen);
+        i += 1;
+    }
+    direction_of(falls, rises)
+}
+
+// Moves the n words from index at + by on down to index at; by 0 words nothing is to be moved.
 fn shift_down(w: &mut [u32], at: usize, by: usize, n: usize)
     requires { ⌜ at + (by + n) ≤ length (now w) ⌝ }
     ensures { λ _. ⌜ MovedDown (now (w .entry)) (now (w .exit)) at by n ⌝ }
 {
+    if by == 0 {
+        return;
+    }
     let mut j = 0;
     while j < n {
         w[at + j] = w[at + (by + j)];

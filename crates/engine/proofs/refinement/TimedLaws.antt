@@ -13,7 +13,8 @@ use Rattle.numbers.proofs.WriteLaws.{put-then}
 use Rattle.prices.specs.declared.TimedPrice.{TimedPrice}
 use Rattle.prices.specs.Pause.{within, keeping, mostKept, direction, lastTime, timesInOrder}
 use Rattle.prices.specs.KeptWords.{keptWords, keptIn, KeepsNew}
-use Rattle.prices.proofs.PriceLaws.{legal-positive}
+use Rattle.prices.specs.Prices.{highest}
+use Rattle.prices.proofs.PriceLaws.{legal-out}
 use Rattle.prices.proofs.PauseLaws.{sound-few, sound-ordered, keeping-sound}
 use Rattle.prices.proofs.KeptWordLaws.{kept-length}
 use Rattle.book.specs.rules.Words.{bookWords}
@@ -96,8 +97,10 @@ module _ (w : List ℕ) (x : TimedPrice) (a : MayAccept w) (none-given : refusal
         (a .ordered .book .long, few, subst (λ (l : List TimedPrice). T (timesInOrder 0 l)) (sym (kept-by-count w en)) (sound-ordered _ _ (sound-venue (venueOf w) (a .sound) .kept)))
 
     module _ (from : ℕ) (inside : from ≤ n) (ef : within (x .time) Kept ≡ drop from Kept) where
-      pub direction-may : (bookWords + keptWords ≤ length w) × (from ≤ n) × (n ≤ mostKept) × (0 < x.price)
-      direction-may = (a .ordered .book .long, inside, few, legal-positive (venueOf w .market .step) (x .price) (allowed .price))
+      pub direction-may : (bookWords + keptWords ≤ length w) × (from ≤ n) × (n ≤ mostKept) × (0 < x.price) × (x.price ≤ highest)
+      direction-may =
+          let l = legal-out (venueOf w .market .step) (x .price) (allowed .price) in
+          (a .ordered .book .long, inside, few, l .low, l .high)
 
       earlier : within (x .time) (venueOf w .kept) ≡ drop from (venueOf w .kept)
       earlier = subst (λ (l : List TimedPrice). within (x .time) l ≡ drop from l) (kept-by-count w en) ef

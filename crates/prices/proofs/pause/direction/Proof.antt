@@ -1,64 +1,85 @@
--- `direction`: by the highest price, then by the lowest. Assumes nothing.
-use Prim.Native.Nat.{_*_}
-use mathlib.Core.Path.{_≡_}
+-- The loop of `direction`: a fall or a rise so far, or among the prices from i on, is one among all. Assumes nothing.
+use Prim.Native.Nat.{ℕ, _-_, _*_, _≤_}
+use mathlib.Core.Path.{_≡_, refl, sym, ap, _∙_}
+use mathlib.Core.Bool.{_||_}
 use lib.Dec.{leb}
 use lib.ListN.{drop}
 use borrow.Author.Needs.{needs}
-use borrow.Author.Tests.{le-leb, lt-leb}
-use Rattle.numbers.specs.Tests.{pick}
-use Rattle.prices.specs.Pause as Pause
+use Rattle.numbers.specs.Tests.{any}
 use Rattle.prices.specs.KeptWords.{keptIn}
-use Rattle.prices.proofs.PauseLaws.{direction-by-range}
+use Rattle.prices.proofs.PauseLaws.{isFall, isRise, direction-found}
+use Rattle.prices.proofs.KeptWordLaws.{some-next, some-over}
 use Rattle.prices.proofs.pause.direction.Statement.{statement}
 use Rattle.prices.proofs.pause.direction.Tie as tie
 
-price-range-requires : tie.Need-price-range-requires
-price-range-requires c κs = search needs
+abbrev Inv-loop : tie.InvT-loop
+Inv-loop w at from n price unfallen risen falls₀ rises₀ i₀ falls rises i =
+    ((falls || any (isFall price) (drop i (keptIn w at n))) ≡ any (isFall price) (drop from (keptIn w at n))) × ((rises || any (isRise price) (drop i (keptIn w at n))) ≡ any (isRise price) (drop from (keptIn w at n))) × (i ≤ n)
 
-mul-tenfold : tie.Need-mul-tenfold
-mul-tenfold c = search needs
+abbrev μ-loop : tie.MeasureT-loop
+μ-loop w at from n price unfallen risen falls₀ rises₀ i₀ falls rises i = n - i
 
-cast-if1 : tie.Need-cast-if1
-cast-if1 c = search needs
+last-unfallen-requires : tie.Need-last-unfallen-requires Inv-loop μ-loop
+last-unfallen-requires c κs = search needs
 
-mul-if1 : tie.Need-mul-if1
-mul-if1 c = search needs
+last-risen-requires : tie.Need-last-risen-requires Inv-loop μ-loop
+last-risen-requires c κs = search needs
 
--- what the range tells of the direction
-by-range : (c : tie.After-price-range) → let a = c .before .before .args in let r = c .price-range .result in pick (leb (10 * a .price) (9 * r .highest)) 1 (pick (leb (11 * r .lowest) (10 * a .price)) 2 0) ≡ Pause.direction (a .price) (drop (a .from) (keptIn (a .w .now) (a .at) (a .n)))
-by-range c =
-    let s = c .before .before in
-    let r = c .price-range in
-    direction-by-range (s .args .price) (r .result .lowest) (r .result .highest) _ (s .pre .3) (search needs) (r .ensures .0) (r .ensures .1)
+loop-holds : tie.Need-loop-holds Inv-loop μ-loop
+loop-holds c = (refl, refl, search needs)
 
-returns : tie.Need-returns
-unfolding pick
-returns c = let s = c .before .before in rw (le-leb _ _ (c .if1 .taken)) at (by-range s)
+price-at-requires : tie.Need-price-at-requires Inv-loop μ-loop
+price-at-requires c κs = search needs
 
-cast-if2 : tie.Need-cast-if2
-cast-if2 c = search needs
+either-requires : tie.Need-either-requires Inv-loop μ-loop
+either-requires c κs = search needs
 
-mul-if2 : tie.Need-mul-if2
-mul-if2 c = search needs
+either-requires-2 : tie.Need-either-requires-2 Inv-loop μ-loop
+either-requires-2 c κs = search needs
 
-returns-2 : tie.Need-returns-2
-unfolding pick
-returns-2 c = let s = c .before .before .before .before in rw (lt-leb _ _ (c .before .before .if1 .left), le-leb _ _ (c .if2 .taken)) at (by-range s)
+add-i : tie.Need-add-i Inv-loop μ-loop
+add-i c = search needs
 
-returns-3 : tie.Need-returns-3
-unfolding pick
-returns-3 c = let s = c .before .before .before .before in rw (lt-leb _ _ (c .before .before .if1 .left), lt-leb _ _ (c .if2 .left)) at (by-range s)
+loop-less : tie.Need-loop-less Inv-loop μ-loop
+loop-less c = search needs
+
+loop-again : tie.Need-loop-again Inv-loop μ-loop
+loop-again c =
+    let price = c .before .before .price-at .ensures in
+    let t = c .before .before .before in
+    let l = t .before .loop in
+    let bounds = t .before .before in
+    let a = bounds .before .before .before .args in (
+      some-next (isFall (a .price)) (a .w .now) (a .at) (a .n) (l .i) (l .falls) (t .loop-test .taken) (c .before .either .ensures) (sym (bounds .before .last-unfallen .ensures _) ∙ ap (λ (q : ℕ). leb (10 * a .price) (9 * q)) price) ∙ l .inv .0,
+      some-next (isRise (a .price)) (a .w .now) (a .at) (a .n) (l .i) (l .rises) (t .loop-test .taken) (c .either2 .ensures) (sym (bounds .last-risen .ensures _) ∙ ap (λ (q : ℕ). leb (11 * q) (10 * a .price)) price) ∙ l .inv .1,
+      search needs,
+    )
+
+direction-of-requires : tie.Need-direction-of-requires Inv-loop μ-loop
+direction-of-requires c κs = search needs
+
+returns : tie.Need-returns Inv-loop μ-loop
+returns c =
+    let l = c .before .before .loop in
+    let a = c .before .before .before .before .before .before .args in
+    direction-found _ _ (c .direction-of .ensures)
+    (sym (some-over (isFall (a .price)) (a .w .now) (a .at) (a .n) (l .i) (l .falls) (c .before .loop-test .left)) ∙ l .inv .0)
+    (sym (some-over (isRise (a .price)) (a .w .now) (a .at) (a .n) (l .i) (l .rises) (c .before .loop-test .left)) ∙ l .inv .1)
 
 pub direction-spec : {M : Type 1} → statement M
 direction-spec =
     tie.close
     (tie.spec
-    price-range-requires
-    mul-tenfold
-    cast-if1
-    mul-if1
-    returns
-    cast-if2
-    mul-if2
-    returns-2
-    returns-3)
+    Inv-loop
+    μ-loop
+    last-unfallen-requires
+    last-risen-requires
+    loop-holds
+    price-at-requires
+    either-requires
+    either-requires-2
+    add-i
+    loop-less
+    loop-again
+    direction-of-requires
+    returns)

@@ -1,10 +1,10 @@
--- The loop of `shift_down`: j words are moved. Assumes nothing.
+-- `shift_down`: by 0 words nothing is moved; the loop, j words are moved. Assumes nothing.
 use borrow.Author.Needs.{needs}
 use Prim.Native.Nat.{_-_, _≤_}
 use mathlib.Core.Path.{_≡_}
 use native.Mathlib.Omega.{arith}
 use Rattle.prices.specs.KeptWords.{MovedDown}
-use Rattle.prices.proofs.KeptWordLaws.{moved-none, moved-more}
+use Rattle.prices.proofs.KeptWordLaws.{moved-nowhere, moved-none, moved-more}
 use Rattle.prices.proofs.pause.shift_down.Statement.{statement}
 use Rattle.prices.proofs.pause.shift_down.Tie as tie
 
@@ -13,6 +13,9 @@ Inv-loop w₀ at by n j₀ w j = MovedDown w₀ w at by j × (j ≤ n)
 
 abbrev μ-loop : tie.MeasureT-loop
 μ-loop w₀ at by n j₀ w j = n - j
+
+returns : tie.Need-returns Inv-loop μ-loop
+returns c = moved-nowhere _ _ _ _ (c .if1 .taken)
 
 loop-holds : tie.Need-loop-holds Inv-loop μ-loop
 loop-holds c = (moved-none _ _ _, search needs)
@@ -50,8 +53,8 @@ loop-again c = (moved-more _ _ _ _ _ (c .before .before .loop .inv .0) (search n
 same-length : tie.Need-same-length Inv-loop μ-loop
 same-length c = c .before .loop .inv .0 .size
 
-returns : tie.Need-returns Inv-loop μ-loop
-returns c = let e : c .before .loop .j ≡ c .before .before .args .n = omega arith in rw e at (c .before .loop .inv .0)
+returns-2 : tie.Need-returns-2 Inv-loop μ-loop
+returns-2 c = let e : c .before .loop .j ≡ c .before .before .before .args .n = omega arith in rw e at (c .before .loop .inv .0)
 
 pub shift-down-spec : {M : Type 1} → statement M
 shift-down-spec =
@@ -59,6 +62,7 @@ shift-down-spec =
     (tie.spec
     Inv-loop
     μ-loop
+    returns
     loop-holds
     add-w
     add-w-2
@@ -71,4 +75,4 @@ shift-down-spec =
     loop-less
     loop-again
     same-length
-    returns)
+    returns-2)
