@@ -5,9 +5,9 @@ use mathlib.Core.Path.{_≡_}
 use mathlib.Core.Bool.{Bool}
 use mathlib.Core.List.{List, [], _∷_, _++_, foldl, map}
 use mathlib.Core.Option.{Option, none, some}
-use lib.Dec.{T, leb, ltb}
+use lib.Dec.{T, leb, ltb, eqb}
 use lib.ListN.{length}
-use Rattle.numbers.specs.Tests.{pick, conj, every}
+use Rattle.numbers.specs.Tests.{pick, conj, every, any}
 use Rattle.numbers.specs.Answers.{Outcome, gives, refuses}
 use Rattle.prices.specs.declared.TimedPrice.{TimedPrice}
 use Rattle.prices.specs.Prices.{isStep, legal}
@@ -76,11 +76,12 @@ abbrev pub TimeTaken : Option TimedPrice → List TimedPrice → Type 0
 TimeTaken none day = Unit {0}
 TimeTaken (some x) day = (lastTime day ≤ x.time) × (length (within (x .time) day) < mostKept)
 
--- 22 and 23 are given to timed prices alone: "time before the last one of the day is 22, and a 513th kept price is 23"
+-- 22 and 23 are given to timed prices alone: "time before the last one of the day is 22, and a 513th kept price is 23"; a timed price is refused for nothing else but
+-- what a tape price is refused for, 1, 2 or 3
 abbrev pub TimeRefused : Option TimedPrice → List TimedPrice → ℕ → Type 0
 TimeRefused none day n = (n ≡ 22 → ⊥) × (n ≡ 23 → ⊥)
 TimeRefused (some x) day n =
-    (n ≡ 22 → x.time < lastTime day) × (n ≡ 23 → (lastTime day ≤ x.time) × (mostKept ≤ length (within (x .time) day)))
+    T (any (eqb n) (1 ∷ 2 ∷ 3 ∷ 22 ∷ 23 ∷ [])) × (n ≡ 22 → x.time < lastTime day) × (n ≡ 23 → (lastTime day ≤ x.time) × (mostKept ≤ length (within (x .time) day)))
 
 -- one event with its answer: its reports 7 are those that are due, and come before all others
 abbrev pub Looked : List TimedPrice → Event → Outcome (List Report) → Type 0
