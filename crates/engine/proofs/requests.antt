@@ -14,3 +14,4 @@ pub mod FullBookReachedLaws
 pub mod StampLaws
 pub mod SlidPriceLaws
 pub mod PauseWatchLaws
+pub mod FullWatchReachedLaws

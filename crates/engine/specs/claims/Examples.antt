@@ -4,7 +4,7 @@ use mathlib.Core.Path.{_≡_}
 use mathlib.Core.Bool.{Bool, true, false, not}
 use mathlib.Core.List.{List, [], _∷_, map, foldl}
 use lib.Dec.{T, eqb}
-use lib.ListN.{replicate}
+use lib.ListN.{length, replicate}
 use Rattle.numbers.specs.Tests.{conj, All}
 use Rattle.numbers.specs.Answers.{Outcome, gives, refuses}
 use Rattle.numbers.specs.SevenBit.{byteCount}
@@ -520,13 +520,17 @@ highestTimes =
     ∷ gets (dayEnd 100_000) (dayEnded 2 ∷ []) ∷ gets (timed 4_294_966_995 100_000) []
     ∷ gets (timed 4_294_967_295 90_000) (pauseTriggered 1 90_000 ∷ restrictionStarts ∷ []) ∷ []
 
--- made-up venues with these kept prices and no order, and n prices of one second
+-- made-up venues with these kept prices, as many accepted events and no order, and n prices of one second
 abbrev pub keptVenue : ℕ → List TimedPrice → Venue
 keptVenue s kept =
-    record { market = record { close = 100_000; phase = 0; bid = 0; step = s }; orders = []; kept = kept; lastId = 0; lastStamp = 0; acceptedEvents = 0 }
+    record { market = record { close = 100_000; phase = 0; bid = 0; step = s }; orders = []; kept = kept; lastId = 0; lastStamp = 0; acceptedEvents = length kept }
 
 abbrev pub inOneSecond : ℕ → List TimedPrice
 inOneSecond n = replicate n (timedAt 1_000 100_000)
+
+-- 512 prices of one second, of kind 7, lead there from open
+abbrev pub FullWatchReached : Type 0
+FullWatchReached = All (λ (s : ℕ). venueAfterAt s (replicate 512 (timed 1_000 100_000)) ≡ keptVenue s (inOneSecond 512)) (100 ∷ 50 ∷ [])
 
 -- from 512 of them: 22 before 23, 3 before 22; 300 seconds later there is no place, 301 seconds later there is
 abbrev pub fullWatch : List Answered
