@@ -17,12 +17,11 @@ ghost use Rattle.numbers.specs.SevenBit.{Put};
 ghost use Rattle.prices.specs.Pause.{mostKept, within, keeping};
 ghost use Rattle.engine.specs.declared.Event.the-variants.{TimedTape as timedTape};
 ghost use Rattle.engine.specs.rules.Records.{reportsBytes};
-ghost use Rattle.engine.specs.rules.Venue.{directionReport};
+ghost use Rattle.engine.specs.rules.Venue.{withKept, directionReport};
 ghost use Rattle.engine.specs.rules.Refusals.{refusalOfTime, refusalOfKind};
 ghost use Rattle.engine.specs.rules.Answers.{refusedWith};
 ghost use Rattle.engine.specs.rules.Layout.{venueOf, soundWords};
 ghost use Rattle.engine.specs.steps.Memory.{Ordered, Becomes, MayAccept, Room, effectIn, Accepts, KeepsOrdered};
-ghost use Rattle.engine.specs.rules.Venue.{withKept};
 
 // The time of a new price: not before the last one of the day, and with at most 511 others kept.
 fn time_refusal(w: &[u32], time: u32) -> MayRefuse

@@ -110,13 +110,6 @@ pub or-assoc : (a b c : Bool) → (a || (b || c)) ≡ ((a || b) || c)
 or-assoc true b c = refl
 or-assoc false b c = refl
 
--- one of two tests that follows from the other
-pub or-second : (a b : Bool) → (T a → T b) → (a || b) ≡ b
-or-second a b h = bool-ext (a || b) b (λ t. elim (or-T a b t) [ inl x ↦ h x | inr x ↦ x ]) (T-inr a b)
-
-pub or-first : (a b : Bool) → (T b → T a) → (a || b) ≡ a
-or-first a b h = bool-ext (a || b) a (λ t. elim (or-T a b t) [ inl x ↦ x | inr x ↦ h x ]) (T-inl a b)
-
 -- each test of a list, as a tuple
 abbrev pub Each : List Bool → Type 0
 Each [] = Unit {0}

@@ -52,11 +52,6 @@ within-append t (x ∷ xs) ys =
     (λ a. within-yes t x (xs ++ ys) a ∙ ap (λ (l : List TimedPrice). x ∷ l) (within-append t xs ys))
     (λ a. within-no t x (xs ++ ys) a ∙ within-append t xs ys)
 
-pub length-within : (t : ℕ) (xs : List TimedPrice) → length (within t xs) ≤ length xs
-length-within t [] = rw within-none zero-le
-length-within t (x ∷ xs) =
-    by-within t x xs (λ (l : List TimedPrice). length l ≤ suc (length xs)) (λ a. omega (arith, length-within t xs)) (λ a. omega (arith, length-within t xs))
-
 all-within : (P : TimedPrice → Type 0) (t : ℕ) (xs : List TimedPrice) → All P xs → All P (within t xs)
 all-within P t [] h = rw within-none tt
 all-within P t (x ∷ xs) h = by-within t x xs (All P) (λ a. (h .0, all-within P t xs (h .1))) (λ a. all-within P t xs (h .1))
@@ -235,12 +230,12 @@ isFall p x = leb (10 * p) (9 * x.price)
 abbrev pub isRise : ℕ → TimedPrice → Bool
 isRise p x = leb (11 * x.price) (10 * p)
 
-pub unfallen-bound : (p r : ℕ) → 9 * r < 10 * p → 10 * p ≤ 9 * (r + 1) → (q : ℕ) → leb (10 * p) (9 * q) ≡ ltb r q
-unfallen-bound p r h k q =
+pub without-fall-bound : (p r : ℕ) → 9 * r < 10 * p → 10 * p ≤ 9 * (r + 1) → (q : ℕ) → leb (10 * p) (9 * q) ≡ ltb r q
+without-fall-bound p r h k q =
     bool-ext _ _ (λ t. le→leb (suc r) q (omega (tests, t))) (λ t. le→leb (10 * p) (9 * q) (omega (tests, t)))
 
-pub risen-bound : (p r : ℕ) → 11 * r ≤ 10 * p → 10 * p < 11 * (r + 1) → (q : ℕ) → leb (11 * q) (10 * p) ≡ leb q r
-risen-bound p r h k q =
+pub with-rise-bound : (p r : ℕ) → 11 * r ≤ 10 * p → 10 * p < 11 * (r + 1) → (q : ℕ) → leb (11 * q) (10 * p) ≡ leb q r
+with-rise-bound p r h k q =
     bool-ext _ _ (λ t. le→leb q r (omega (tests, t))) (λ t. le→leb (11 * q) (10 * p) (omega (tests, t)))
 
 -- the direction, by what was found of falls and of rises

@@ -128,22 +128,23 @@ pub fn first_within(w: &[u32], at: usize, n: usize, time: u32) -> usize
     n
 }
 
-// The highest earlier price of which a new one is no fall, and the highest of which it is a rise, as 10 × p ≤ 9 × q just where q is above the one and
-// 11 × q ≤ 10 × p just where q isn't above the other: one comparison for each kept price, without a product.
-fn last_unfallen(price: u32) -> u32
+// The highest earlier price of which a new one is no fall, and the highest of which it is a rise: 10 × p ≤ 9 × q just where q is above the one, and
+// 11 × q ≤ 10 × p just where q isn't above the other. So each kept price takes two comparisons and no product.
+fn highest_without_fall(price: u32) -> u32
     requires { ⌜ (0 < price) × (price ≤ highest) ⌝ }
     ensures { λ r. ⌜ ((q : ℕ) → leb (10 * price) (9 * q) ≡ ltb r q) ⌝ }
 {
     (10 * price - 1) / 9
 }
 
-fn last_risen(price: u32) -> u32
+fn highest_with_rise(price: u32) -> u32
     requires { ⌜ price ≤ highest ⌝ }
     ensures { λ r. ⌜ ((q : ℕ) → leb (11 * q) (10 * price) ≡ leb q r) ⌝ }
 {
     10 * price / 11
 }
 
+// Whether one of two tests holds.
 fn either(a: bool, b: bool) -> bool
     ensures { λ r. ⌜ r ≡ (a || b) ⌝ }
 {
@@ -172,15 +173,15 @@ pub fn direction(w: &[u32], at: usize, from: usize, n: usize, price: u32) -> u32
     requires { ⌜ (at + keptWords ≤ length (now w)) × (from ≤ n) × (n ≤ mostKept) × (0 < price) × (price ≤ highest) ⌝ }
     ensures { λ r. ⌜ r ≡ Pause.direction price (drop from (keptIn (now (w .entry)) at n)) ⌝ }
 {
-    let unfallen = last_unfallen(price);
-    let risen = last_risen(price);
+    let without_fall = highest_without_fall(price);
+    let with_rise = highest_with_rise(price);
     let mut falls = false;
     let mut rises = false;
     let mut i = from;
     while i < n {
         let earlier = price_at(w, at, i);
-        falls = either(falls, earlier > unfallen);
-        rises = either(rises, earlier <= risen);
+        falls = either(falls, earlier > without_fall);
+        rises = either(rises, earlier <= with_rise);
         i += 1;
     }
     direction_of(falls, rises)

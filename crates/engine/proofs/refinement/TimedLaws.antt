@@ -1,10 +1,10 @@
 -- What a timed price is refused for, reports and leaves: its time, report 7, the price kept, and then a tape price. Assumes nothing.
 use Prim.Native.Nat.{ℕ, suc, _+_, _-_, _≤_, _<_}
 use native.Mathlib.Omega.{arith}
-use mathlib.Core.Path.{_≡_, refl, sym, ap, _∙_, subst}
+use mathlib.Core.Path.{_≡_, sym, ap, _∙_, subst}
 use mathlib.Core.List.{List, [], _∷_, _++_}
 use mathlib.Core.Option.{Option, none, some}
-use lib.Dec.{T, leb, ltb}
+use lib.Dec.{T, ltb}
 use lib.ListN.{length, getD, drop, length-drop}
 use borrow.Author.Tests.{le-leb, lt-leb}
 use Rattle.numbers.specs.SevenBit.{Put}
@@ -20,20 +20,19 @@ use Rattle.prices.proofs.KeptWordLaws.{kept-length}
 use Rattle.book.specs.rules.Words.{bookWords}
 use Rattle.engine.specs.declared.Event.the-variants.{Tape as tape, TimedTape as timedTape}
 use Rattle.engine.specs.rules.Market.{marketAfter}
-use Rattle.engine.specs.rules.Reports.{Report, pauseTriggered}
+use Rattle.engine.specs.rules.Reports.{pauseTriggered}
 use Rattle.engine.specs.rules.Pass.{Effect}
-use Rattle.engine.specs.rules.Venue.{Venue, thePass, directionReport, pauseReport, effectOf, venueAfter}
+use Rattle.engine.specs.rules.Venue.{Venue, withKept, thePass, directionReport, effectOf, venueAfter}
 use Rattle.engine.specs.rules.Sound.{sound}
 use Rattle.engine.specs.rules.Refusals.{refusalOfTime, refusalOfKind}
 use Rattle.engine.specs.rules.Records.{reportsBytes}
 use Rattle.engine.specs.rules.Layout.{venueOf}
-use Rattle.engine.specs.steps.Memory.{Ordered, KeepsOrdered, Becomes, Room, effectIn, MayAccept, AcceptsFrom, Accepts}
-use Rattle.engine.specs.rules.Venue.{withKept}
+use Rattle.engine.specs.steps.Memory.{Ordered, Becomes, Room, effectIn, MayAccept, AcceptsFrom, Accepts}
 use Rattle.engine.proofs.refinement.RefusalLaws.{TimedAllowed, Unless, sound-step, refusalOfKind-known}
 use Rattle.engine.proofs.refinement.RefuseLaws.{refuse-yes, refuse-no}
 use Rattle.engine.proofs.refinement.MemoryLaws.{spare-then, becomes-then, becomes-as, new-kept}
 use Rattle.engine.proofs.refinement.StepLaws.{reports-append, put-as, room-as, room-first, room-then}
-use Rattle.engine.proofs.demand3.SoundLaws.{SoundVenue, sound-venue, venue-sound}
+use Rattle.engine.proofs.demand3.SoundLaws.{sound-venue, venue-sound}
 
 -- the kept prices by their count
 pub kept-by-count : (w : List ℕ) {n : ℕ} → n ≡ length (venueOf w .kept) → keptIn w bookWords n ≡ venueOf w .kept

@@ -19,11 +19,11 @@ Inv-loop w at from n price unfallen risen falls₀ rises₀ i₀ falls rises i =
 abbrev μ-loop : tie.MeasureT-loop
 μ-loop w at from n price unfallen risen falls₀ rises₀ i₀ falls rises i = n - i
 
-last-unfallen-requires : tie.Need-last-unfallen-requires Inv-loop μ-loop
-last-unfallen-requires c κs = search needs
+highest-without-fall-requires : tie.Need-highest-without-fall-requires Inv-loop μ-loop
+highest-without-fall-requires c κs = search needs
 
-last-risen-requires : tie.Need-last-risen-requires Inv-loop μ-loop
-last-risen-requires c κs = search needs
+highest-with-rise-requires : tie.Need-highest-with-rise-requires Inv-loop μ-loop
+highest-with-rise-requires c κs = search needs
 
 loop-holds : tie.Need-loop-holds Inv-loop μ-loop
 loop-holds c = (refl, refl, search needs)
@@ -50,8 +50,8 @@ loop-again c =
     let l = t .before .loop in
     let bounds = t .before .before in
     let a = bounds .before .before .before .args in (
-      some-next (isFall (a .price)) (a .w .now) (a .at) (a .n) (l .i) (l .falls) (t .loop-test .taken) (c .before .either .ensures) (sym (bounds .before .last-unfallen .ensures _) ∙ ap (λ (q : ℕ). leb (10 * a .price) (9 * q)) price) ∙ l .inv .0,
-      some-next (isRise (a .price)) (a .w .now) (a .at) (a .n) (l .i) (l .rises) (t .loop-test .taken) (c .either2 .ensures) (sym (bounds .last-risen .ensures _) ∙ ap (λ (q : ℕ). leb (11 * q) (10 * a .price)) price) ∙ l .inv .1,
+      some-next (isFall (a .price)) (a .w .now) (a .at) (a .n) (l .i) (l .falls) (t .loop-test .taken) (c .before .either .ensures) (sym (bounds .before .highest-without-fall .ensures _) ∙ ap (λ (q : ℕ). leb (10 * a .price) (9 * q)) price) ∙ l .inv .0,
+      some-next (isRise (a .price)) (a .w .now) (a .at) (a .n) (l .i) (l .rises) (t .loop-test .taken) (c .either2 .ensures) (sym (bounds .highest-with-rise .ensures _) ∙ ap (λ (q : ℕ). leb (11 * q) (10 * a .price)) price) ∙ l .inv .1,
       search needs,
     )
 
@@ -72,8 +72,8 @@ direction-spec =
     (tie.spec
     Inv-loop
     μ-loop
-    last-unfallen-requires
-    last-risen-requires
+    highest-without-fall-requires
+    highest-with-rise-requires
     loop-holds
     price-at-requires
     either-requires
