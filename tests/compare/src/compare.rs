@@ -6,7 +6,8 @@
 //! 17 for the step and 3 for the close; the permitted price is 0 for both of
 //! these; a fresh venue is 0 in every place; later, places that the
 //! venue doesn't use may hold anything; spare words and words behind the venue keep
-//! their content, and so do all words of the kept prices but in a timed price and a day end; a side is a buy where it is 0, and depth refuses with 2^64 - 1. Play
+//! their content, and so do all words of the kept prices but in a timed price and
+//! a day end; a side is a buy where it is 0, and depth refuses with 2^64 - 1. Play
 //! looks at the venue first, so there 16 comes before 9 to 12. The fill question
 //! refuses a run that is too short with 16 too.
 

@@ -1,84 +1,109 @@
 //! Days of timed prices, worked out by hand from No. 10 of document 02. The lines of a day
-//! are the model's, and the reader of pauses agrees with each of them; with a report 7 lost,
-//! turned round, doubled or put behind it doesn't.
+//! are the model's, and the reader of pauses agrees with each of them; with a report 7 or a
+//! refusal of No. 10 made wrong it doesn't.
 
 use crate::days::{assert_day, event_of, is_refused, report_bytes, Played, ON};
 use crate::model::{
-    copy_out, Event, Progress, RecordCheck, Refusal, TimedPrice, Venue, CENT, HALF_CENT,
-    LEAST_BUFFER,
+    copy_out, Event, Progress, RecordCheck, Refusal, Report, ReportWriter, TimedPrice, Venue, CENT,
+    HALF_CENT, LEAST_BUFFER,
 };
 use crate::pauses::Pauses;
 use crate::sessions::Fault;
 
-/// The answer that lines say: report bytes, or a refusal, of which a timed price has few.
-fn answer_of(lines: &[&str]) -> Result<Vec<u8>, Refusal> {
+type Answer = Result<Vec<Report>, Refusal>;
+
+/// The answer that lines say: reports, or a refusal, of which a timed price has few.
+fn answer_of(lines: &[&str]) -> Answer {
     match lines {
         ["0 3"] => Err(Refusal::Price),
         ["0 22"] => Err(Refusal::Time),
         ["0 23"] => Err(Refusal::KeptPrices),
         lines if is_refused(lines) => panic!("{lines:?}"),
-        lines => Ok(report_bytes(lines)),
+        lines => Ok(Report::read_all(&report_bytes(lines)).expect("reports")),
     }
 }
 
-/// What the reader says of a list of events with their lines.
-fn read(step: u32, list: &[(&str, Vec<&str>)]) -> Result<(), Fault> {
-    let mut pauses = Pauses::start(true, step).expect("a stream from open");
-    for (event, lines) in list {
-        let answer = answer_of(lines);
-        let answer = answer.as_deref().map_err(|refusal| *refusal);
-        pauses.take(&event_of(event), answer)?;
-    }
-    Ok(())
+/// What the reader says of an event with its answer.
+fn take(pauses: &mut Pauses, event: &Event, answer: &Answer) -> Result<(), Fault> {
+    let mut buffer = vec![0; LEAST_BUFFER];
+    let written = answer.as_ref().map(|reports| {
+        let mut writer = ReportWriter::new(&mut buffer);
+        reports.iter().for_each(|report| writer.put(*report));
+        writer.byte_count()
+    });
+    let answer = written.map(|count| &buffer[..count]);
+    pauses.take(event, answer.map_err(|refusal| *refusal))
 }
 
-/// Other lines of an event, which the reader must see: a report 7 that is lost, turned
-/// round, of another price, doubled, put behind the others, or put where there is none; and
-/// another refusal.
-fn wrong_lines(event: &str, lines: &[&'static str]) -> Vec<Vec<&'static str>> {
-    let is_timed = event.starts_with("timed");
-    if is_refused(lines) {
-        let others = [vec!["0 3"], vec!["0 22"], vec!["0 23"], vec![]];
-        let others = others.into_iter().filter(|other| other != lines);
-        return others.filter(|_| is_timed).collect();
-    }
-    let [first @ ("7 1 90000" | "7 2 99000"), behind @ ..] = lines else {
-        let put = |pause| [&[pause], lines].concat();
-        let refusals = [vec!["0 22"], vec!["0 23"]];
-        return [put("7 1 90000"), put("7 2 99000")]
-            .into_iter()
-            .chain(refusals)
-            .collect();
-    };
-    let turned = match *first {
-        "7 1 90000" => "7 2 90000",
-        _ => "7 1 99000",
-    };
-    let mut wrong = vec![
-        behind.to_vec(),
-        [&[turned], behind].concat(),
-        [&["7 1 100000"], behind].concat(),
-        [&[*first, *first], behind].concat(),
-        [&[*first, turned], behind].concat(),
+/// The reports with one more behind so many of them.
+fn put(reports: &[Report], at: usize, report: Report) -> Vec<Report> {
+    [&reports[..at], &[report], &reports[at..]].concat()
+}
+
+/// A report 7 lost, turned round, of another price, doubled, with one turned round before or
+/// behind it, and put behind each of the others.
+fn with_other_pauses(direction: u32, price: u32, others: &[Report]) -> Vec<Vec<Report>> {
+    let pause = |direction, price| Report::Pause { direction, price };
+    let right = pause(direction, price);
+    let turned = pause(3 - direction, price);
+    let fronts: [&[Report]; 6] = [
+        &[],
+        &[turned],
+        &[pause(direction, price + 1)],
+        &[right, right],
+        &[turned, right],
+        &[right, turned],
     ];
-    if !behind.is_empty() {
-        wrong.push([behind, &[*first]].concat());
-    }
-    wrong
+    let fronts = fronts.iter().map(|front| [front, others].concat());
+    let behind = (1..=others.len()).map(|at| put(others, at, right));
+    fronts.chain(behind).collect()
 }
 
-/// The lines of the day are those of model and reader, and no other line passes the reader.
+/// A report 7 put where there is none, of both directions and in each place.
+fn with_a_pause(event: &Event, reports: &[Report]) -> Vec<Vec<Report>> {
+    let price = match event {
+        Event::Timed(new) => new.price,
+        _ => 90_000,
+    };
+    let pauses = [1, 2].map(|direction| Report::Pause { direction, price });
+    let places = (0..=reports.len()).flat_map(|at| pauses.map(|pause| put(reports, at, pause)));
+    places.collect()
+}
+
+/// Each refusal of No. 10 but the right one: "Checked after the price: [...] 22, and [...]
+/// 23." Of an event without a time the reader leaves 3 to others.
+fn other_refusals(event: &Event, right: &Answer) -> Vec<Answer> {
+    let refusals = [Refusal::Price, Refusal::Time, Refusal::KeptPrices];
+    let first = usize::from(!matches!(event, Event::Timed(_)));
+    let refusals = refusals[first..].iter().map(|refusal| Err(*refusal));
+    refusals.filter(|wrong| wrong != right).collect()
+}
+
+/// Other answers to an event, which the reader must see.
+fn wrong_answers(event: &Event, right: &Answer) -> Vec<Answer> {
+    let wrong = match (event, right.as_deref()) {
+        (_, Ok([Report::Pause { direction, price }, others @ ..])) => {
+            with_other_pauses(*direction, *price, others)
+        }
+        (Event::Timed(_), Err(_)) => [vec![vec![]], with_a_pause(event, &[])].concat(),
+        (_, reports) => with_a_pause(event, reports.unwrap_or_default()),
+    };
+    let wrong = wrong.into_iter().map(Ok);
+    wrong.chain(other_refusals(event, right)).collect()
+}
+
+/// The lines of the day are those of model and reader, and none of the wrong answers passes
+/// the reader.
 fn assert_pauses(step: u32, day: &[Played]) {
     assert_day(step, day);
-    let list = day.iter().map(|(event, lines)| (*event, lines.to_vec()));
-    let list: Vec<_> = list.collect();
-    assert_eq!(read(step, &list), Ok(()));
-    for (at, (event, lines)) in day.iter().enumerate() {
-        for wrong in wrong_lines(event, lines) {
-            let mut other = list[..=at].to_vec();
-            other[at].1 = wrong.clone();
-            assert!(read(step, &other).is_err(), "{event}: {wrong:?}");
+    let mut pauses = Pauses::start(true, step).expect("a stream from open");
+    for (event, lines) in day {
+        let (event, right) = (event_of(event), answer_of(lines));
+        for wrong in wrong_answers(&event, &right) {
+            let taken = take(&mut pauses.clone(), &event, &wrong);
+            assert!(taken.is_err(), "{event:?}: {wrong:?}");
         }
+        assert_eq!(take(&mut pauses, &event, &right), Ok(()));
     }
 }
 

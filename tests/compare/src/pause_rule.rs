@@ -113,6 +113,7 @@ impl Rule {
     ) -> bool {
         let reports = answer.unwrap_or_default();
         let refusal = answer.err().map(Refusal::number);
+        let as_untimed = !matches!(refusal, Some(22 | 23)) && !reports.iter().any(is_pause);
         match (*event, refusal) {
             (_, Some(16)) => true,
             (Event::Timed(new), Some(early @ 1..=2)) => {
@@ -129,9 +130,9 @@ impl Rule {
             }
             (Event::DayEnd { price }, _) => {
                 (self.day_end)(state, price, refusal.is_none());
-                !reports.iter().any(is_pause)
+                as_untimed
             }
-            _ => !matches!(refusal, Some(22 | 23)) && !reports.iter().any(is_pause),
+            _ => as_untimed,
         }
     }
 
@@ -222,7 +223,7 @@ pub fn check_record(venue: &Venue) -> Result<(), Fault> {
 #[cfg(test)]
 mod tests {
     use super::*;
-    use crate::model::{CENT, HALF_CENT};
+    use crate::model::{CENT, HALF_CENT, LEAST_BUFFER};
     use crate::pauses::{is_fall, is_rise};
     use crate::shown::{assert_told_apart, show_all};
 
@@ -472,11 +473,10 @@ mod tests {
                 each.flatten().collect()
             }),
             ("the kept price is given", |new, kept| {
-                let mut kept = kept.iter();
-                let found = kept.find(|old| is_fall(new.price, old.price));
+                let found = kept.iter().find(|old| is_fall(new.price, old.price));
                 match found {
                     Some(old) => pause(Some(1), old.price),
-                    None => by(new, kept.as_slice(), is_fall, is_rise),
+                    None => by(new, kept, is_fall, is_rise),
                 }
             }),
             ("directions turned round", |new, kept| {
@@ -672,6 +672,26 @@ mod tests {
                 rule.holds(state, shown.before, shown.event, shown.answer)
             });
         });
+    }
+
+    /// "time before the last one of the day is 22, and a 513th kept price is 23": of timed
+    /// prices alone. 3 is left to others.
+    #[test]
+    fn refusals_22_and_23_of_other_events_are_seen() {
+        let venue = Venue::fresh(CENT, 100_000);
+        let events = [
+            Event::Cancel { id: 1 },
+            Event::Bid { price: 0 },
+            Event::Tape { price: 0 },
+            Event::DayEnd { price: 0 },
+        ];
+        for event in events {
+            let holds = [Refusal::Price, Refusal::Time, Refusal::KeptPrices].map(|refusal| {
+                let checked = check(&venue, &event, LEAST_BUFFER, Err(refusal), &venue);
+                checked.is_ok()
+            });
+            assert_eq!(holds, [true, false, false], "{event:?}");
+        }
     }
 
     /// Whether kept prices may stand in a venue record of a step.

@@ -46,6 +46,7 @@ pub fn direction_over(price: u32, earlier: &[TimedPrice]) -> Option<u32> {
 
 /// A list up to now: the step it was opened with, and the timed prices of the day that were
 /// accepted.
+#[derive(Clone)]
 pub struct Pauses {
     step: u32,
     day: Vec<TimedPrice>,
