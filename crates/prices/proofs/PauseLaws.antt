@@ -11,7 +11,7 @@ use Rattle.numbers.specs.Tests.{pick, every, any, All}
 use Rattle.numbers.proofs.TestLaws.{by-test, pick-yes, and-T, T-and, bool-ext, conj-T, T-conj, every-T, T-every, all-append, and-yes, and-no, and-false, and-last, not-yes, not-no, tests}
 use Rattle.prices.specs.declared.TimedPrice.{TimedPrice}
 use Rattle.prices.specs.Prices.{legal}
-use Rattle.prices.specs.Pause.{rollingSeconds, within, keeping, mostKept, someFall, someRise, direction, firstTime, lastTimeFrom, lastTime, timesInOrder, soundKept}
+use Rattle.prices.specs.Pause.{rollingSeconds, within, keeping, mostKept, isFall, isRise, someFall, someRise, direction, firstTime, lastTimeFrom, lastTime, timesInOrder, soundKept}
 
 abbrev legalAt : ℕ → TimedPrice → Bool
 legalAt step x = legal step (x .price)
@@ -223,12 +223,6 @@ unfolding soundKept
 many-refused step xs h = rw (lt-leb (length xs) mostKept h)
 
 -- the direction by tests of each price, against the highest price without a fall and the highest with a rise
-
-abbrev pub isFall : ℕ → TimedPrice → Bool
-isFall p x = leb (10 * p) (9 * x.price)
-
-abbrev pub isRise : ℕ → TimedPrice → Bool
-isRise p x = leb (11 * x.price) (10 * p)
 
 pub without-fall-bound : (p r : ℕ) → 9 * r < 10 * p → 10 * p ≤ 9 * (r + 1) → (q : ℕ) → leb (10 * p) (9 * q) ≡ ltb r q
 without-fall-bound p r h k q =

@@ -26,11 +26,17 @@ abbrev pub mostKept : ℕ
 mostKept = 512
 
 -- "some earlier kept price q has 10 × p ≤ 9 × q"; "some q has 10 × p ≥ 11 × q"
+abbrev pub isFall : ℕ → TimedPrice → Bool
+isFall p q = leb (10 * p) (9 * q.price)
+
+abbrev pub isRise : ℕ → TimedPrice → Bool
+isRise p q = leb (11 * q.price) (10 * p)
+
 unfoldable pub someFall : ℕ → List TimedPrice → Bool
-someFall p earlier = any (λ (x : TimedPrice). leb (10 * p) (9 * x.price)) earlier
+someFall p earlier = any (isFall p) earlier
 
 unfoldable pub someRise : ℕ → List TimedPrice → Bool
-someRise p earlier = any (λ (x : TimedPrice). leb (11 * x.price) (10 * p)) earlier
+someRise p earlier = any (isRise p) earlier
 
 -- the direction that report 7 gives, 1 for a fall, "else" 2 for a rise; 0 where there is no report 7
 unfoldable pub direction : ℕ → List TimedPrice → ℕ

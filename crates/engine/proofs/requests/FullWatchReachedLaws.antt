@@ -1,4 +1,4 @@
--- No. 10: 512 timed prices of one second lead from open to the full watch of the examples. Assumes nothing.
+-- No. 10: 512 timed prices of one second lead from open to the examples' venue of 512 kept prices. Assumes nothing.
 use Prim.Native.Nat.{ℕ, zero, suc, _+_, _≤_, _<_}
 use native.Mathlib.Omega.{arith}
 use mathlib.Core.Path.{_≡_, refl, ap, _∙_, subst}
@@ -43,7 +43,7 @@ module _ (x : TimedPrice) where
   unfolding lastTime
   same-last n = same-last-from 0 n (omega arith)
 
--- one timed price, at the close: the phase stays, and no order rests
+-- one timed price, the close: the phase stays, and no order rests
 
 module _ (s : ℕ) (legal-price : T (legal s 100_000)) where
   abbrev x : TimedPrice

@@ -6,9 +6,9 @@ use mathlib.Core.Path.{_≡_, refl, sym, ap, _∙_, subst}
 use mathlib.Core.Bool.{Bool, true, false, not, _&&_}
 use mathlib.Core.Option.{Option, none, some}
 use mathlib.Core.List.{List, [], _∷_, _++_, map}
-use lib.Dec.{T, leb, ltb, eqb, T-not}
+use lib.Dec.{T, leb, ltb, eqb}
 use lib.ListN.{length}
-use Rattle.numbers.specs.Tests.{any, All}
+use Rattle.numbers.specs.Tests.{All}
 use Rattle.numbers.specs.Answers.{gives}
 use Rattle.numbers.proofs.TestLaws.{by-test, and-T, T-true, all-append, map-all, tests}
 use Rattle.prices.specs.declared.TimedPrice.{TimedPrice}
@@ -30,10 +30,8 @@ use Rattle.engine.specs.rules.Refusals.{refuseUnless, firstOf, refusalOf
 use Rattle.engine.specs.rules.Run.{Step, stepUnless, step, Call, Run, run}
 use Rattle.engine.specs.rules.Layout.{venueOf}
 use Rattle.engine.specs.claims.Calls.{AppliedCall, Chain}
-use Rattle.engine.specs.claims.Pauses.{dayAfter, dayAnswered, dayFrom, otherReports, TimeRefused, Looked, AllLooked, PausesByPlainLook, CallsByPlainLook, PausesByPlainLookInCalls, TimedAsTape, TimedTapesAsTapes, soundBeforeNo10, refusalBeforeNo10, Untimed, UntimedEventsAsBefore, watchedStep, TimedCallsAsTapes, stepBeforeNo10, UntimedCallsAsBefore, timedBy}
+use Rattle.engine.specs.claims.Pauses.{dayAfter, dayAnswered, dayFrom, otherReports, TimeRefused, Looked, AllLooked, timeRefusal, PausesByPlainLook, CallsByPlainLook, PausesByPlainLookInCalls, TimedAsTape, TimedTapesAsTapes, soundBeforeNo10, refusalBeforeNo10, Untimed, UntimedEventsAsBefore, watchedStep, TimedCallsAsTapes, stepBeforeNo10, UntimedCallsAsBefore, timedBy}
 use Rattle.engine.proofs.demand3.MarketLaws.{pause-by}
-use Rattle.engine.proofs.demand3.SoundLaws.{venue-sound}
-use Rattle.engine.proofs.demand3.ReachedLaws.{step-sound, opened-sound}
 use Rattle.engine.proofs.demand3.CallLaws.{callOf, accepted-call, fresh-run}
 use Rattle.engine.proofs.refinement.OpeningLaws.{opening-known, opening-gives, opened-book, opened-venue, step-in}
 use Rattle.engine.proofs.refinement.RefusalLaws.{by-refusal, by-first, terms-by, codes-by, owner-by, place-by, NotRefused, none-known}
@@ -107,10 +105,10 @@ more-watched {kept} {day} x h l =
 
 -- refusals
 
--- 22 and 23 are given for the time alone, and a timed price is refused for little else
-abbrev ForTime : Option TimedPrice → List TimedPrice → Option ℕ → Type 0
-ForTime x day none = Unit {0}
-ForTime x day (some n) = TimeRefused x day n
+-- 22 and 23 are given for the time alone
+abbrev ForTime : Event → List TimedPrice → Option ℕ → Type 0
+ForTime e day none = Unit {0}
+ForTime e day (some n) = TimeRefused (timedBy e) day n
 
 abbrev other : ℕ → Bool
 other n = not (eqb n 22) && not (eqb n 23)
@@ -120,47 +118,73 @@ not-time n h =
     let r = and-T (not (eqb n 22)) _ h in
     (λ z. subst (λ (k : ℕ). T (not (eqb k 22))) z (r .0), λ z. subst (λ (k : ℕ). T (not (eqb k 23))) z (r .1))
 
--- 1, 2 and 3, which any event may get
-as-tape : (x : Option TimedPrice) (day : List TimedPrice) (n : ℕ) → T (other n) → T (any (eqb n) (1 ∷ 2 ∷ 3 ∷ 22 ∷ 23 ∷ [])) → TimeRefused x day n
-as-tape none day n h m = not-time n h
-as-tape (some x) day n h m = let r = not-time n h in (m, λ z. absurd (r .0 z), λ z. absurd (r .1 z))
+other-refused : (x : Option TimedPrice) (day : List TimedPrice) (n : ℕ) → T (other n) → TimeRefused x day n
+other-refused none day n h = not-time n h
+other-refused (some x) day n h = let r = not-time n h in (λ z. absurd (r .0 z), λ z. absurd (r .1 z))
 
 module _ (v : Venue) (day : List TimedPrice) where
-  entry-for-time : (x : Entry) (ofOwner : Option ℕ) → ForTime none day ofOwner → ForTime none day (refusalOfEntry v x ofOwner)
+  entry-for-time : (e : Event) (x : Entry) (ofOwner : Option ℕ) → ForTime e day ofOwner → ForTime e day (refusalOfEntry v x ofOwner)
   unfolding refusalOfEntry
-  entry-for-time x ofOwner h =
-      let P : Option ℕ → Type 0 = ForTime none day in
-      by-first P _ _ (terms-by P tt (not-time 3 tt) (not-time 4 tt) (v.market.step) (x .price) (x .shares)) (by-first P _ _ (codes-by P tt (not-time 18 tt) (not-time 5 tt) (not-time 19 tt) (not-time 20 tt) x) (by-first P _ _ h (place-by P tt (not-time 6 tt) (not-time 7 tt) v x)))
+  entry-for-time e x ofOwner h =
+      let P : Option ℕ → Type 0 = ForTime e day in
+      let o : (n : ℕ) → T (other n) → P (some n) = other-refused (timedBy e) day in
+      by-first P _ _ (terms-by P tt (o 3 tt) (o 4 tt) (v.market.step) (x .price) (x .shares)) (by-first P _ _ (codes-by P tt (o 18 tt) (o 5 tt) (o 19 tt) (o 20 tt) x) (by-first P _ _ h (place-by P tt (o 6 tt) (o 7 tt) v x)))
 
-  time-for-time : (x : TimedPrice) → Watched (v .kept) day → ForTime (some x) day (refusalOfTime (v .kept) (x .time))
-  unfolding refusalOfTime any
+  time-for-time : (x : TimedPrice) → Watched (v .kept) day → ForTime (timedTape x) day (refusalOfTime (v .kept) (x .time))
+  unfolding refusalOfTime
   time-for-time x h =
-      by-refusal (ForTime (some x) day) (leb (lastTime (v .kept)) (x .time)) 22 _
-      (λ t. (tt, λ z. omega (tests, t, h .last), λ z. absurd (omega arith)))
-      (λ t. by-refusal (ForTime (some x) day) (ltb (length (within (x .time) (v .kept))) mostKept) 23 none
-      (λ f. (tt, λ z. absurd (omega arith), λ z. (omega (tests, t, h .last), many t f)))
+      by-refusal (ForTime (timedTape x) day) (leb (lastTime (v .kept)) (x .time)) 22 _
+      (λ t. (λ z. omega (tests, t, h .last), λ z. absurd (omega arith)))
+      (λ t. by-refusal (ForTime (timedTape x) day) (ltb (length (within (x .time) (v .kept))) mostKept) 23 none
+      (λ f. (λ z. absurd (omega arith), λ z. (omega (tests, t, h .last), many t f)))
       (λ f. tt))
     where
       many : T (leb (lastTime (v .kept)) (x .time)) → T (not (ltb (length (within (x .time) (v .kept))) mostKept)) → mostKept ≤ length (within (x .time) day)
       many t f = subst (λ (l : List TimedPrice). mostKept ≤ length l) (seen (x .time) h (omega (tests, t))) (omega (tests, f))
 
-  kind-for-time : (e : Event) → Watched (v .kept) day → ForTime (timedBy e) day (refusalOfKind v e)
-  unfolding refusalOfKind any
-  kind-for-time (entry e) h = entry-for-time e none tt
-  kind-for-time (cancel i) h = by-refusal (ForTime none day) _ 8 none (λ t. not-time 8 tt) (λ t. tt)
-  kind-for-time (bid b) h = by-refusal (ForTime none day) _ 3 none (λ t. not-time 3 tt) (λ t. tt)
-  kind-for-time (tape p) h = by-refusal (ForTime none day) _ 3 none (λ t. not-time 3 tt) (λ t. tt)
-  kind-for-time (dayEnd c) h = by-refusal (ForTime none day) _ 3 none (λ t. not-time 3 tt) (λ t. tt)
-  kind-for-time (ownedEntry e k) h = entry-for-time e (refusalOfOwner k) (owner-by (ForTime none day) tt (not-time 21 tt) k)
-  kind-for-time (timedTape x) h = by-refusal (ForTime (some x) day) _ 3 _ (λ t. as-tape (some x) day 3 tt tt) (λ t. time-for-time x h)
+  kind-for-time : (e : Event) → Watched (v .kept) day → ForTime e day (refusalOfKind v e)
+  unfolding refusalOfKind
+  kind-for-time (entry e) h = entry-for-time (entry e) e none tt
+  kind-for-time (cancel i) h = by-refusal (ForTime (cancel i) day) _ 8 none (λ t. not-time 8 tt) (λ t. tt)
+  kind-for-time (bid b) h = by-refusal (ForTime (bid b) day) _ 3 none (λ t. not-time 3 tt) (λ t. tt)
+  kind-for-time (tape p) h = by-refusal (ForTime (tape p) day) _ 3 none (λ t. not-time 3 tt) (λ t. tt)
+  kind-for-time (dayEnd c) h = by-refusal (ForTime (dayEnd c) day) _ 3 none (λ t. not-time 3 tt) (λ t. tt)
+  kind-for-time (ownedEntry e k) h = entry-for-time (ownedEntry e k) e (refusalOfOwner k) (owner-by (ForTime (ownedEntry e k) day) tt (not-time 21 tt) k)
+  kind-for-time (timedTape x) h = by-refusal (ForTime (timedTape x) day) _ 3 _ (λ t. other-refused (some x) day 3 tt) (λ t. time-for-time x h)
 
-  -- a sound venue gives no 16
-  refused-for-time : (e : Event) (n : ℕ) → T (sound v) → Watched (v .kept) day → ForTime (timedBy e) day (refusal v e n)
-  unfolding refusal any
-  refused-for-time e n s h =
-      let x = timedBy e in
-      let P : Option ℕ → Type 0 = ForTime x day in
-      by-refusal P _ 16 _ (λ t. absurd (T-not (sound v) t s)) (λ t. by-refusal P _ 1 _ (λ t. as-tape x day 1 tt tt) (λ t. by-refusal P _ 2 _ (λ t. as-tape x day 2 tt tt) (λ t. kind-for-time e h)))
+  refused-for-time : (e : Event) (n : ℕ) → Watched (v .kept) day → ForTime e day (refusal v e n)
+  unfolding refusal
+  refused-for-time e n h =
+      let P : Option ℕ → Type 0 = ForTime e day in
+      let o : (n : ℕ) → T (other n) → P (some n) = other-refused (timedBy e) day in
+      by-refusal P _ 16 _ (λ t. o 16 tt) (λ t. by-refusal P _ 1 _ (λ t. o 1 tt) (λ t. by-refusal P _ 2 _ (λ t. o 2 tt) (λ t. kind-for-time e h)))
+
+-- a timed price is refused as its tape price is, then for its time
+
+first-behind : (a b c d : Bool) (r : Option ℕ) → refuseUnless a 16 (refuseUnless b 1 (refuseUnless c 2 (refuseUnless d 3 r))) ≡ firstOf (refuseUnless a 16 (refuseUnless b 1 (refuseUnless c 2 (refuseUnless d 3 none)))) r
+unfolding refuseUnless firstOf
+first-behind false b c d r = refl
+first-behind true false c d r = refl
+first-behind true true false d r = refl
+first-behind true true true false r = refl
+first-behind true true true true r = refl
+
+refused-as-tape : (v : Venue) (x : TimedPrice) (n : ℕ) → refusal v (timedTape x) n ≡ firstOf (refusal v (tape (x .price)) n) (refusalOfTime (v .kept) (x .time))
+unfolding refusal refusalOfKind
+refused-as-tape v x n =
+    first-behind (sound v) (leb leastBuffer n) (ltb (v .acceptedEvents) mostEvents) (legal (v.market.step) (x .price)) _
+
+refuse-same : (b : Bool) (n : ℕ) (r r′ : Option ℕ) → (T b → r ≡ r′) → refuseUnless b n r ≡ refuseUnless b n r′
+unfolding refuseUnless
+refuse-same true n r r′ h = h tt
+refuse-same false n r r′ h = refl
+
+-- beside the kept prices a time is refused as beside all of the day
+same-refusal : {kept day : List TimedPrice} (t : ℕ) → Watched kept day → refusalOfTime kept t ≡ timeRefusal day t
+unfolding refusalOfTime
+same-refusal {kept} {day} t h =
+    ap (λ (k : ℕ). refuseUnless (leb k t) 22 (refuseUnless (ltb (length (within t kept)) mostKept) 23 none)) (h .last)
+    ∙ refuse-same (leb (lastTime day) t) 22 _ _ (λ b. ap (λ (l : List TimedPrice). refuseUnless (ltb (length l) mostKept) 23 none) (seen t h (omega (tests, b, h .last))))
 
 -- one event
 
@@ -190,27 +214,26 @@ accepted-watched v (timedTape x) n day a h = more-watched x h (a .allowed .time)
 
 -- every list
 
-unless-looked : (x : Option ℕ) (v : Venue) (e : Event) (n : ℕ) (day : List TimedPrice) → refusal v e n ≡ x → T (sound v) → Watched (v .kept) day → let s : Step = stepUnless x v e in Looked day e (s .answer) × Watched (s .venue .kept) (dayAnswered day e (s .answer))
+unless-looked : (x : Option ℕ) (v : Venue) (e : Event) (n : ℕ) (day : List TimedPrice) → refusal v e n ≡ x → Watched (v .kept) day → let s : Step = stepUnless x v e in Looked day e (s .answer) × Watched (s .venue .kept) (dayAnswered day e (s .answer))
 unfolding stepUnless
-unless-looked (some k) v e n day r s h = (subst (ForTime (timedBy e) day) r (refused-for-time v day e n s h), h)
-unless-looked none v e n day r s h =
+unless-looked (some k) v e n day r h = (subst (ForTime e day) r (refused-for-time v day e n h), h)
+unless-looked none v e n day r h =
     let a = none-known v e n r in
     (accepted-looked v e n day a h, accepted-watched v e n day a h)
 
-run-looked : (cs : List Call) (v : Venue) (day : List TimedPrice) → T (sound v) → Watched (v .kept) day → let r : Run = run v cs in AllLooked day (r .answered) × Watched (r .venue .kept) (dayFrom day (r .answered))
+run-looked : (cs : List Call) (v : Venue) (day : List TimedPrice) → Watched (v .kept) day → let r : Run = run v cs in AllLooked day (r .answered) × Watched (r .venue .kept) (dayFrom day (r .answered))
 unfolding run step
-run-looked [] v day s h = (tt, h)
-run-looked (c ∷ cs) v day s h =
-    let x = unless-looked (refusal v (c .event) (c .buffer)) v (c .event) (c .buffer) day refl s h in
-    let y = run-looked cs _ _ (step-sound v (c .event) (c .buffer) s) (x .1) in
+run-looked [] v day h = (tt, h)
+run-looked (c ∷ cs) v day h =
+    let x = unless-looked (refusal v (c .event) (c .buffer)) v (c .event) (c .buffer) day refl h in
+    let y = run-looked cs _ _ (x .1) in
     ((x .0, y .0), y .1)
 
 pub pauses-by-plain-look : PausesByPlainLook
 unfolding opened
 pauses-by-plain-look s close v o cs =
-    let k = opening-known s close v o in
-    let r = run-looked cs v [] (rw (k .fresh) (venue-sound _ (opened-sound s close (k .is) (k .legal)))) (rw (k .fresh) none-watched) in
-    record { looked = r .0; keeps = r .1 .keeps }
+    let r = run-looked cs v [] (rw (opening-known s close v o .fresh) none-watched) in
+    record { looked = r .0; keeps = r .1 .keeps; refused = λ x n. refused-as-tape (run v cs .venue) x n ∙ ap (firstOf _) (same-refusal (x .time) (r .1)) }
 
 -- of calls, from words that mean a fresh venue
 pub by-plain-look-from : (s close : ℕ) → T (isStep s) → T (legal s close) → {w₀ : List ℕ} → T (isBook w₀) → venueOf w₀ ≡ opened s close → (cs : List AppliedCall) (w′ : List ℕ) → Chain w₀ cs w′ → CallsByPlainLook cs w′
@@ -219,7 +242,7 @@ by-plain-look-from s close i t u f cs w′ c =
     record {
       read = run (opened s close) (map callOf cs) .answered;
       readable = r .readable;
-      byLook = rw (ap (λ (v : Venue). v .kept) (r .venue)) (pauses-by-plain-look s close (opened s close) (opening-gives s close i t) (map callOf cs));
+      byLook = rw (r .venue) (pauses-by-plain-look s close (opened s close) (opening-gives s close i t) (map callOf cs));
     }
 
 pub pauses-by-plain-look-in-calls : PausesByPlainLookInCalls
@@ -227,25 +250,13 @@ pauses-by-plain-look-in-calls s close i t = by-plain-look-from s close i t (open
 
 -- a timed price beside its tape price
 
-first-behind : (a b c d : Bool) (r : Option ℕ) → refuseUnless a 16 (refuseUnless b 1 (refuseUnless c 2 (refuseUnless d 3 r))) ≡ firstOf (refuseUnless a 16 (refuseUnless b 1 (refuseUnless c 2 (refuseUnless d 3 none)))) r
-unfolding refuseUnless firstOf
-first-behind false b c d r = refl
-first-behind true false c d r = refl
-first-behind true true false d r = refl
-first-behind true true true false r = refl
-first-behind true true true true r = refl
-
 module _ (v : Venue) (x : TimedPrice) (n : ℕ) where
-  refused-as-tape : refusal v (timedTape x) n ≡ firstOf (refusal v (tape (x .price)) n) (refusalOfTime (v .kept) (x .time))
-  unfolding refusal refusalOfKind
-  refused-as-tape = first-behind (sound v) (leb leastBuffer n) (ltb (v .acceptedEvents) mostEvents) (legal (v.market.step) (x .price)) _
-
   tape-accepted : refusal v (timedTape x) n ≡ none → refusal v (tape (x .price)) n ≡ none
-  tape-accepted h = first-nothing _ _ (sym refused-as-tape ∙ h) .0
+  tape-accepted h = first-nothing _ _ (sym (refused-as-tape v x n) ∙ h) .0
 
   timed-as-tape : TimedAsTape v x n
   unfolding step stepUnless effectOf
-  timed-as-tape = record { refused = refused-as-tape; accepted = λ h. rw (h, tape-accepted h) refl }
+  timed-as-tape = record { refused = refused-as-tape v x n; accepted = λ h. rw (h, tape-accepted h) refl }
 
 pub timed-tapes-as-tapes : TimedTapesAsTapes
 timed-tapes-as-tapes = timed-as-tape

@@ -5,9 +5,9 @@ use mathlib.Core.Path.{_≡_}
 use mathlib.Core.Bool.{Bool}
 use mathlib.Core.List.{List, [], _∷_, _++_, foldl, map}
 use mathlib.Core.Option.{Option, none, some}
-use lib.Dec.{T, leb, ltb, eqb}
+use lib.Dec.{T, leb, ltb}
 use lib.ListN.{length}
-use Rattle.numbers.specs.Tests.{pick, conj, every, any}
+use Rattle.numbers.specs.Tests.{pick, conj, every}
 use Rattle.numbers.specs.Answers.{Outcome, gives, refuses}
 use Rattle.prices.specs.declared.TimedPrice.{TimedPrice}
 use Rattle.prices.specs.Prices.{isStep, legal}
@@ -76,12 +76,11 @@ abbrev pub TimeTaken : Option TimedPrice → List TimedPrice → Type 0
 TimeTaken none day = Unit {0}
 TimeTaken (some x) day = (lastTime day ≤ x.time) × (length (within (x .time) day) < mostKept)
 
--- 22 and 23 are given to timed prices alone: "time before the last one of the day is 22, and a 513th kept price is 23"; a timed price is refused for nothing else but
--- what a tape price is refused for, 1, 2 or 3
+-- 22 and 23 are given to timed prices alone: "time before the last one of the day is 22, and a 513th kept price is 23"
 abbrev pub TimeRefused : Option TimedPrice → List TimedPrice → ℕ → Type 0
 TimeRefused none day n = (n ≡ 22 → ⊥) × (n ≡ 23 → ⊥)
 TimeRefused (some x) day n =
-    T (any (eqb n) (1 ∷ 2 ∷ 3 ∷ 22 ∷ 23 ∷ [])) × (n ≡ 22 → x.time < lastTime day) × (n ≡ 23 → (lastTime day ≤ x.time) × (mostKept ≤ length (within (x .time) day)))
+    (n ≡ 22 → x.time < lastTime day) × (n ≡ 23 → (lastTime day ≤ x.time) × (mostKept ≤ length (within (x .time) day)))
 
 -- one event with its answer: its reports 7 are those that are due, and come before all others
 abbrev pub Looked : List TimedPrice → Event → Outcome (List Report) → Type 0
@@ -92,23 +91,32 @@ abbrev pub AllLooked : List TimedPrice → List Answered → Type 0
 AllLooked day [] = Unit {0}
 AllLooked day (x ∷ xs) = Looked day (x .event) (x .answer) × AllLooked (dayAnswered day (x .event) (x .answer)) xs
 
--- of a list, and of the prices that the venue keeps after it: those of the day within 300 seconds of the last one
-pub record ByPlainLook (xs : List Answered) (kept : List TimedPrice) : Type 0 where
+-- what a time is refused for, by a look at all prices of the day
+abbrev pub timeRefusal : List TimedPrice → ℕ → Option ℕ
+timeRefusal day t =
+    refuseUnless (leb (lastTime day) t) 22
+    (refuseUnless (ltb (length (within t day)) mostKept) 23
+    none)
+
+-- of a list, and of the venue after it: it keeps the prices of the day within 300 seconds of the last one, and a next timed price, lent a buffer of any length, is
+-- refused as its tape price would be, then for its time: "Checked after the price"
+pub record ByPlainLook (xs : List Answered) (v : Venue) : Type 0 where
   pub looked : AllLooked [] xs
-  pub keeps : kept ≡ within (lastTime (dayFrom [] xs)) (dayFrom [] xs)
+  pub keeps : v.kept ≡ within (lastTime (dayFrom [] xs)) (dayFrom [] xs)
+  pub refused : (x : TimedPrice) (n : ℕ) → refusal v (timedTape x) n ≡ firstOf (refusal v (tape (x .price)) n) (timeRefusal (dayFrom [] xs) (x .time))
 
 -- for every step and close that open takes and every list of events, each lent a report buffer of any length
 abbrev pub PausesByPlainLook : Type 0
 PausesByPlainLook =
     (s close : ℕ) (v : Venue) → opening s close ≡ gives v → (cs : List Call) →
     let r : Run = run v cs in
-    ByPlainLook (r .answered) (r.venue.kept)
+    ByPlainLook (r .answered) (r .venue)
 
 -- the same of calls: read from the events, the answers and the report bytes
 pub record CallsByPlainLook (cs : List AppliedCall) (w′ : List ℕ) : Type 0 where
   pub read : List Answered
   pub readable : map answeredOf cs ≡ map some read
-  pub byLook : ByPlainLook read (venueOf w′ .kept)
+  pub byLook : ByPlainLook read (venueOf w′)
 
 abbrev pub PausesByPlainLookInCalls : Type 0
 PausesByPlainLookInCalls =

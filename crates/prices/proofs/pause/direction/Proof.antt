@@ -6,18 +6,19 @@ use lib.Dec.{leb}
 use lib.ListN.{drop}
 use borrow.Author.Needs.{needs}
 use Rattle.numbers.specs.Tests.{any}
+use Rattle.prices.specs.Pause.{isFall, isRise}
 use Rattle.prices.specs.KeptWords.{keptIn}
-use Rattle.prices.proofs.PauseLaws.{isFall, isRise, direction-found}
+use Rattle.prices.proofs.PauseLaws.{direction-found}
 use Rattle.prices.proofs.KeptWordLaws.{some-next, some-over}
 use Rattle.prices.proofs.pause.direction.Statement.{statement}
 use Rattle.prices.proofs.pause.direction.Tie as tie
 
 abbrev Inv-loop : tie.InvT-loop
-Inv-loop w at from n price unfallen risen falls₀ rises₀ i₀ falls rises i =
+Inv-loop w at from n price «without_fall» «with_rise» falls₀ rises₀ i₀ falls rises i =
     ((falls || any (isFall price) (drop i (keptIn w at n))) ≡ any (isFall price) (drop from (keptIn w at n))) × ((rises || any (isRise price) (drop i (keptIn w at n))) ≡ any (isRise price) (drop from (keptIn w at n))) × (i ≤ n)
 
 abbrev μ-loop : tie.MeasureT-loop
-μ-loop w at from n price unfallen risen falls₀ rises₀ i₀ falls rises i = n - i
+μ-loop w at from n price «without_fall» «with_rise» falls₀ rises₀ i₀ falls rises i = n - i
 
 highest-without-fall-requires : tie.Need-highest-without-fall-requires Inv-loop μ-loop
 highest-without-fall-requires c κs = search needs
