@@ -1,4 +1,6 @@
 // Orders, their priority and matching: the third layer.
+#![tactic(auto)]
+
 pub mod depth;
 pub mod fill;
 pub mod place;

@@ -1,5 +1,7 @@
 // Plays a stream of events, a close and then event records, and prints each report as a line of kind and fields and "0 n" for refusal n:
 // document 01, "Program `venue`", and document 02, No. 2. What is printed is gathered in a buffer and written in large pieces.
+#![tactic(auto)]
+
 mod line;
 
 use days::{Stop, play};

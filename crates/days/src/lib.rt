@@ -1,4 +1,6 @@
 // A day in one call: event records played one after another. It stands on the four layers and on the records.
+#![tactic(auto)]
+
 pub mod play;
 
 use records::ReadRefusal;

@@ -1,4 +1,6 @@
 // The venue of document 01, with document 02 up to No. 10: events, reports, refusals and the law of demand 3. The fourth layer.
+#![tactic(auto)]
+
 pub mod apply;
 pub mod copy;
 mod enter;

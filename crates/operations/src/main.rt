@@ -1,4 +1,6 @@
 // Program `operations`: watch, copy out and depth on sound and on refused input. It prints what comes out, and "0 n" for refusal n.
+#![tactic(auto)]
+
 mod lend;
 
 use book::{DepthAnswer, OrderRecord, Side};

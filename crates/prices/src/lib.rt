@@ -1,4 +1,6 @@
 // Prices, bids, the permitted price, the phases of the restriction and the pause watch: the second layer.
+#![tactic(auto)]
+
 pub mod increments;
 pub mod pause;
 pub mod restriction;

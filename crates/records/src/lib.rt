@@ -1,4 +1,6 @@
 // Event records as bytes: document 01, "Read a record", "Write a record". It stands on the four layers, beside the calls for hosts.
+#![tactic(auto)]
+
 pub mod record;
 
 use engine::Event;

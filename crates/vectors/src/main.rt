@@ -1,5 +1,7 @@
 // Plays the files that its arguments name, each after a line with its name: as program `venue` plays its input, and those behind an argument `50` as
 // program `venue-half` does. A name that ends in `ask` is a file of questions, about the stream whose name ends in `bin` in that place.
+#![tactic(auto)]
+
 mod questions;
 
 ghost use Rattle.io.specs.Counts.{IsPrefixLen};

@@ -1,4 +1,6 @@
 // Program `venue`: plays the first 65,536 bytes of standard input, at a step of 100.
+#![tactic(auto)]
+
 use libc::STDIN_FILENO;
 use prices::increments;
 
