@@ -5,11 +5,10 @@ use native.Mathlib.Decide.{dec_le}
 use mathlib.Core.Path.{◌≡◌, sym, ◌∙◌}
 use lib.Dec.{leb}
 use borrow.Author.Tests.{le-leb, lt-leb}
-use Rattle.numbers.proofs.write.fits.Statement.{statement}
-use Rattle.numbers.proofs.write.fits.Tie as tie
+use Rattle.numbers.proofs.write.fits.Goals as goal
 
-returns : tie.Need-returns
-returns c = let a = c.before.args in sym (lt-leb (a.at + a.count) a.len (omega arith))
+pub returns-then-at-len : goal.returns-then-at-len
+returns-then-at-len c = let a = c.args in sym (lt-leb (a.at + a.count) a.len (omega arith))
 
 by-rest : (len at count : ℕ) → at ≤ len → leb count (len - at) ≡ leb (at + count) len
 by-rest len at count h =
@@ -18,8 +17,5 @@ by-rest len at count h =
       | no l ↦ lt-leb count (len - at) (omega arith) ∙ sym (lt-leb (at + count) len (omega arith))
     ]
 
-returns-2 : tie.Need-returns-2
-returns-2 c = let a = c.before.args in by-rest a.len a.at a.count c.if1.false
-
-pub fits-spec : {M : Type 1} → statement M
-fits-spec = tie.close (tie.spec returns returns-2)
+pub returns : goal.returns
+returns c = let a = c.args in by-rest a.len a.at a.count c.if-at-len.false
