@@ -1,7 +1,6 @@
 -- Laws that the layers above cite.
 pub mod PriceLaws
 pub mod RestrictionLaws
-pub mod Returned
 pub mod HalfCentLaws
 pub mod FallingAgainLaws
 pub mod PauseLaws
