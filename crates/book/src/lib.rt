@@ -13,7 +13,7 @@ pub mod words;
 
 // An order as document 01, "Orders", and document 02, No. 1 and No. 7, have it: the fields of its entry, then what the venue adds, then the owner. `limit`
 // is what counts as the limit of the entry, `price` the present price, and `shares` those left.
-#[derive(Drop)]
+#[derive(Clone, Copy)]
 pub struct Order {
     pub id: u32,
     // 0 buy, 1 long sell, 2 short, 3 short exempt
@@ -45,7 +45,7 @@ pub struct Order {
 // An order record of the run that a host lends for copy out and depth: the same fields, one 32-bit word each, so any bytes are a record. Copy out
 // writes a flag as 0 or 1.
 #[repr(C)]
-#[derive(Drop)]
+#[derive(Clone, Copy)]
 pub struct OrderRecord {
     pub id: u32,
     pub mark: u32,
@@ -65,28 +65,28 @@ pub struct OrderRecord {
 }
 
 // Where an order stands in the book, counted from 0.
-#[derive(Drop)]
+#[derive(Clone, Copy)]
 pub enum Position {
     At(usize),
     Absent,
 }
 
 // Whether an order would fill in full, and how many orders were read to tell.
-#[derive(Drop)]
+#[derive(Clone, Copy)]
 pub struct FrontRead {
     pub fills: bool,
     pub read: usize,
 }
 
 // The side of the book that depth is asked for.
-#[derive(Drop)]
+#[derive(Clone, Copy)]
 pub enum Side {
     Buy,
     Sell,
 }
 
 // What depth answers: the shares, or that the run has over 256 records.
-#[derive(Drop)]
+#[derive(Clone, Copy)]
 pub enum DepthAnswer {
     Shares(u64),
     TooMany,
