@@ -12,4 +12,3 @@ pub mod SoundOrderLaws
 pub mod WalkLaws
 pub mod FrontLaws
 pub mod DepthLaws
-pub mod LentRecords
