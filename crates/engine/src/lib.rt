@@ -20,7 +20,7 @@ use book::{FrontRead, Order, words};
 use prices::TimedPrice;
 
 // The close, the phase of the restriction, the national bid and the step of prices from the dollar border up.
-#[derive(Drop)]
+#[derive(Clone, Copy)]
 pub struct Market {
     pub close: u32,
     pub phase: u32,
@@ -29,7 +29,7 @@ pub struct Market {
 }
 
 // The fields of an entry, in the order of its record.
-#[derive(Drop)]
+#[derive(Clone, Copy)]
 pub struct Entry {
     pub id: u32,
     pub mark: u32,
@@ -40,7 +40,7 @@ pub struct Entry {
     pub slide: u32,
 }
 
-#[derive(Drop)]
+#[derive(Clone, Copy)]
 pub enum Event {
     Entry(Entry),
     // the id
@@ -58,7 +58,7 @@ pub enum Event {
 }
 
 // What becomes of the remainder of a working order: there is none, it is cancelled for a cause, or it rests.
-#[derive(Drop)]
+#[derive(Clone, Copy)]
 pub enum Remainder {
     Filled,
     Cancelled(u32),
@@ -66,7 +66,7 @@ pub enum Remainder {
 }
 
 // What the pass does with an order: leaves it, cancels it, or re-prices it, with the value of "used" that it then has.
-#[derive(Drop)]
+#[derive(Clone, Copy)]
 pub enum Move {
     Stay,
     Cancel,
@@ -74,14 +74,14 @@ pub enum Move {
 }
 
 // What is left of a working order, and the offset behind its reports.
-#[derive(Drop)]
+#[derive(Clone, Copy)]
 pub struct WorkingOrder {
     pub left: Order,
     pub end: usize,
 }
 
 // The offset behind the reports of the pass, or of a part of it, the last stamp, and where the next order likely stands.
-#[derive(Drop)]
+#[derive(Clone, Copy)]
 pub struct Passed {
     pub end: usize,
     pub stamp: u32,
@@ -89,7 +89,7 @@ pub struct Passed {
 }
 
 // Why open, an event or a question is refused.
-#[derive(Drop)]
+#[derive(Clone, Copy)]
 pub enum Refusal {
     // the report buffer has under 16,384 bytes
     BufferTooShort,
@@ -122,14 +122,14 @@ pub enum Refusal {
 }
 
 // Whether an event or a question is refused, and why.
-#[derive(Drop)]
+#[derive(Clone, Copy)]
 pub enum MayRefuse {
     Refuse(Refusal),
     Allow,
 }
 
 // What an event answers: the byte count of its reports, or the refusal.
-#[derive(Drop)]
+#[derive(Clone, Copy)]
 pub enum Answer {
     Accepted(usize),
     Refused(Refusal),
@@ -137,7 +137,7 @@ pub enum Answer {
 
 // What copy out answers: how many records it filled, that the run is shorter than the book, or that the words break a condition of a
 // venue record.
-#[derive(Drop)]
+#[derive(Clone, Copy)]
 pub enum CopyAnswer {
     Filled(usize),
     RunTooShort,
@@ -145,21 +145,21 @@ pub enum CopyAnswer {
 }
 
 // What the question whether an entry would fill answers: yes or no with the count of orders read, or why it is refused.
-#[derive(Drop)]
+#[derive(Clone, Copy)]
 pub enum FillAnswer {
     Told(FrontRead),
     Refused(Refusal),
 }
 
 // What open answers.
-#[derive(Drop)]
+#[derive(Clone, Copy)]
 pub enum OpenAnswer {
     Fresh,
     NotOpened(Refusal),
 }
 
 // A fresh venue, with words all 0 where none was made.
-#[derive(Drop)]
+#[derive(Clone, Copy)]
 pub struct Opened {
     pub answer: OpenAnswer,
     pub words: [u32; words::VENUE],

@@ -6,7 +6,7 @@ pub mod record;
 use engine::Event;
 
 // Why no event record stands at an offset: a byte is missing, a number is bad, the kind is none, or a field is above 32 bits.
-#[derive(Drop)]
+#[derive(Clone, Copy)]
 pub enum ReadRefusal {
     MissingByte,
     BadNumber,
@@ -15,28 +15,28 @@ pub enum ReadRefusal {
 }
 
 // One field of an event record with the offset behind it, or the refusal.
-#[derive(Drop)]
+#[derive(Clone, Copy)]
 pub enum FieldRead {
     Field { value: u32, end: usize },
     Refused(ReadRefusal),
 }
 
 // The offset behind the fields that were read, or the refusal.
-#[derive(Drop)]
+#[derive(Clone, Copy)]
 pub enum FieldsRead {
     End(usize),
     Refused(ReadRefusal),
 }
 
 // What stands at an offset of a byte slice: an event with the offset behind its record, or the refusal.
-#[derive(Drop)]
+#[derive(Clone, Copy)]
 pub enum RecordRead {
     Record { event: Event, end: usize },
     Refused(ReadRefusal),
 }
 
 // What writing an event record answers: the offset behind it, or that it doesn't fit.
-#[derive(Drop)]
+#[derive(Clone, Copy)]
 pub enum RecordWrite {
     End(usize),
     NoRoom,
