@@ -8,7 +8,7 @@ use numbers::{NumberRead, read};
 const LINE: usize = 128;
 
 // A position in the output and one in what is printed.
-#[derive(Drop)]
+#[derive(Clone, Copy)]
 struct Progress {
     at: usize,
     next: usize,

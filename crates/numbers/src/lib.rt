@@ -7,7 +7,7 @@ pub mod sizes;
 pub mod write;
 
 // What a byte is as a group of a number: one with more groups behind it, the last one, or none that is allowed there.
-#[derive(Drop)]
+#[derive(Clone, Copy)]
 pub enum Group {
     More,
     Last,
@@ -15,7 +15,7 @@ pub enum Group {
 }
 
 // What stands at an offset of a byte slice: a number with the offset behind it, or a refusal.
-#[derive(Drop)]
+#[derive(Clone, Copy)]
 pub enum NumberRead {
     Value { value: u64, end: usize },
     MissingByte,
@@ -23,7 +23,7 @@ pub enum NumberRead {
 }
 
 // What writing numbers answers: the offset behind them, or that they don't fit.
-#[derive(Drop)]
+#[derive(Clone, Copy)]
 pub enum NumberWrite {
     End(usize),
     NoRoom,

@@ -9,14 +9,14 @@ use libc::STDOUT_FILENO;
 use prices::{Watch, WatchAnswer};
 
 // A watch after a tape price, and the answer.
-#[derive(Drop)]
+#[derive(Clone, Copy)]
 struct WatchSeen {
     watch: Watch,
     answer: WatchAnswer,
 }
 
 // A run of records after copy out, and the answer.
-#[derive(Drop)]
+#[derive(Clone, Copy)]
 struct CopySeen {
     answer: CopyAnswer,
     run: [OrderRecord; 4],

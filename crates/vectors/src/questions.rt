@@ -7,7 +7,7 @@ use records::{FieldRead, RecordRead, record};
 const HIGHEST_WORD: u64 = 4_294_967_295;
 
 // A decimal number and the offset behind the byte that ends it.
-#[derive(Drop)]
+#[derive(Clone, Copy)]
 struct Decimal {
     value: u64,
     end: usize,
