@@ -31,7 +31,7 @@ pub fields_there : {bytes : List ℕ} {at e : ℕ} (xs : List ℕ) → All Word 
 unfolding bytes_of_all fields_at by_field pick
 fields_there {bytes} {at} {e} [] h s = ap (fields []) (omega (arith, s.ends))
 fields_there {bytes} {at} {e} (x ∷ xs) h s =
-    rw (read_there x (omega (arith, h.0)) (stands_front (bytes_of x) (bytes_of_all xs) s), le-leb x highest_field h.0, fields_there xs h.1 (stands_behind (bytes_of x) (bytes_of_all xs) s))
+    rw (read_there x (omega (arith, h.0)) (stands_front (bytes_of x) (bytes_of_all xs) s), le-leb x highest_field h.0, fields_there {at = at + length (bytes_of x)} xs h.1 (stands_behind (bytes_of x) (bytes_of_all xs) s))
 
 -- n fields that were read, where they stand
 pub record FieldsStand (n : ℕ) (bytes : List ℕ) (at : ℕ) (r : Read (List ℕ)) : Type 0 where

@@ -307,4 +307,4 @@ slump_restricted v t d (x ∷ ds) m (l, falling, r, later) =
     let k : T (sound u) = subst (λ (s : Step). T (sound s.venue)) a (step_sound v (tape x.price) least_buffer t) in
     let b : step u (day_end x.close) least_buffer ≡ carried_step x.close u = day_end_carries u k (omega arith) x.close r refl in
     let n : T (sound (carried_step x.close u).venue) = subst (λ (s : Step). T (sound s.venue)) b (step_sound u (day_end x.close) least_buffer k) in
-    rw (a, b, the_pass_no_phase (in_phase 1 v.market) v, day_end_last u.orders 2, slump_restricted _ n (λ z. omega arith) ds (omega arith) later)
+    rw (a, b, the_pass_no_phase (in_phase 1 v.market) v, day_end_last u.orders 2, slump_restricted (carried_step x.close u).venue n (λ z. omega arith) ds (omega arith) later)
