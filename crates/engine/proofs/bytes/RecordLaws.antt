@@ -280,7 +280,7 @@ reports_there {bytes} {at} {e} (suc n) (r ∷ rs) l h s =
     let m = at + length (report_bytes r) in
     let front : Stands bytes at (report_bytes r) m = stands_front (report_bytes r) (reports_bytes rs) s in
     let t : Stands bytes m (reports_bytes rs) e = stands_behind (report_bytes r) (reports_bytes rs) s in
-    rw (ne_eqb at e (λ q. omega (arith, report_positive r, t.ends)), report_read_back bytes at (record { value = r; end = m }) (record { words = h.0; stands = front }), reports_there n rs (omega arith) h.1 t)
+    rw (ne_eqb at e (λ q. omega (arith, report_positive r, t.ends)), report_read_back bytes at (record { value = r; end = m }) (record { words = h.0; stands = front }), reports_there {at = m} n rs (omega arith) h.1 t)
 
 pub all_reports_read_back : AllReportsReadBack
 unfolding reports_up_to
