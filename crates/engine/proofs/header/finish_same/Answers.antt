@@ -1,0 +1,12 @@
+-- `finish_same` counts the event. Assumes nothing.
+use native.Mathlib.Omega.{arith}
+use Rattle.engine.specs.rules.Layout.{venue_of}
+use Rattle.engine.proofs.refinement.MemoryLaws.{events_counted}
+use Rattle.engine.proofs.header.finish_same.Goals as goal
+
+pub overflow_add-events : goal.overflow_add-events
+unfolding venue_of
+overflow_add-events c = omega (arith, c.header_word-events.ensures, c.requires.1)
+
+pub returns : goal.returns
+returns c = events_counted c.requires.0 c.header_word-events.ensures c.set_header_word.ensures
