@@ -25,18 +25,12 @@ returns-then-not-venue_sound c = question_broken _ _ _ _ (sym c.venue_sound.ensu
 
 -- what holds where the next refusals are asked, and where none was given
 
-abbrev start : Else-not-venue_sound → Start
-start c = c
-
-sound : (c : Else-not-venue_sound) → T (sound_words (start c).args.words.now)
+sound : (c : Else-not-venue_sound) → T (sound_words c.args.words.now)
 sound c =
     let v = c.venue_sound in
     subst T (sym (not_no v.result (ap not c.if-not-venue_sound.false)) ∙ v.ensures) tt
 
-abbrev from-refusals : In-Allow → Else-not-venue_sound
-from-refusals c = c
-
-allowed : (c : In-Allow) → let a = (start (from-refusals c)).args in refusal_of_asked (venue_of a.words.now).market.step a.mark a.price a.shares ≡ none
+allowed : (c : In-Allow) → let a = c.args in refusal_of_asked (venue_of a.words.now).market.step a.mark a.price a.shares ≡ none
 allowed c = sym c.asked_refusal.ensures ∙ ap refused_with c.in-Allow.is
 
 asked-has : (m : Market) (mark price shares : ℕ) {o : Order} → o ≡ asked_order m mark price shares → o.shares ≡ shares
@@ -47,11 +41,11 @@ pub asked_refusal-requires : goal.asked_refusal-requires
 asked_refusal-requires c = words_stepped _ (sound (goal.at.asked_refusal-requires c).Else-not-venue_sound)
 
 pub asked_order-requires : goal.asked_order-requires
-asked_order-requires c = sound (from-refusals (goal.at.asked_order-requires c).In-Allow)
+asked_order-requires c = sound (goal.at.asked_order-requires c).Else-not-venue_sound
 
 pub read_front-requires : goal.read_front-requires
 read_front-requires c =
-    ((words_ordered _ (sound (from-refusals (goal.at.read_front-requires c).In-Allow))).book, omega (arith, asked-has _ _ _ _ c.asked_order.ensures, asked_shares _ _ _ _ (allowed (goal.at.read_front-requires c).In-Allow)))
+    ((words_ordered _ (sound (goal.at.read_front-requires c).Else-not-venue_sound)).book, omega (arith, asked-has _ _ _ _ c.asked_order.ensures, asked_shares _ _ _ _ (allowed (goal.at.read_front-requires c).In-Allow)))
 
 pub returns-in-Refuse : goal.returns-in-Refuse
 returns-in-Refuse c =
@@ -59,4 +53,4 @@ returns-in-Refuse c =
 
 pub returns-in-Allow : goal.returns-in-Allow
 returns-in-Allow c =
-    question_told _ _ _ _ (sound (from-refusals (goal.at.returns-in-Allow c).In-Allow)) (allowed (goal.at.returns-in-Allow c).In-Allow) (c.read_front.ensures ∙ ap (λ (x : Order). front_read x (resting (start (from-refusals (goal.at.returns-in-Allow c).In-Allow)).args.words.now)) c.asked_order.ensures)
+    question_told _ _ _ _ (sound (goal.at.returns-in-Allow c).Else-not-venue_sound) (allowed (goal.at.returns-in-Allow c).In-Allow) (c.read_front.ensures ∙ ap (λ (x : Order). front_read x (resting c.args.words.now)) c.asked_order.ensures)

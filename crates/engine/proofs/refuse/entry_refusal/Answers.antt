@@ -1,7 +1,6 @@
 -- `entry_refusal` by its parts, in their order. Assumes nothing.
 use mathlib.Core.Path.{◌≡◌, sym, ap, ◌∙◌}
 use mathlib.Core.Option.{none}
-use Rattle.engine.specs.declared.Entry.{Entry}
 use Rattle.engine.specs.rules.Refusals.{refusal_of_terms, refusal_of_codes, refusal_of_entry}
 use Rattle.engine.specs.rules.Layout.{venue_of}
 use Rattle.engine.specs.rules.Answers.{refused_with}
@@ -11,13 +10,10 @@ use Rattle.engine.proofs.refuse.entry_refusal.Goals.{In-Allow, In-Allow-codes_re
 
 -- what holds where the next part is asked
 
-abbrev lent : In-Allow → Entry
-lent c = c.args.e
-
-terms : (c : In-Allow) → refusal_of_terms (venue_of c.args.w.now).market.step (lent c).price (lent c).shares ≡ none
+terms : (c : In-Allow) → refusal_of_terms (venue_of c.args.w.now).market.step c.args.e.price c.args.e.shares ≡ none
 terms c = sym c.terms_refusal.ensures ∙ ap refused_with c.in-Allow.is
 
-codes : (c : In-Allow-codes_refusal) → refusal_of_codes (lent c.In-Allow) ≡ none
+codes : (c : In-Allow-codes_refusal) → refusal_of_codes c.args.e ≡ none
 codes c = sym c.codes_refusal.ensures ∙ ap refused_with c.in-Allow-codes_refusal.is
 
 pub returns-in-Refuse : goal.returns-in-Refuse

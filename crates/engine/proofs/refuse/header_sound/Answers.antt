@@ -1,8 +1,6 @@
 -- `header_sound` by its tests, in their order. Assumes nothing.
-use mathlib.Core.Path.{ap}
-use mathlib.Core.Bool.{not}
-use mathlib.Core.Path.{◌≡◌, refl, sym, ◌∙◌}
-use mathlib.Core.Bool.{true}
+use mathlib.Core.Path.{◌≡◌, refl, sym, ap, ◌∙◌}
+use mathlib.Core.Bool.{not, true}
 use mathlib.Core.List.{List}
 use Prim.Native.Nat.{ℕ}
 use lib.Dec.{leb}
@@ -17,28 +15,16 @@ use Rattle.engine.proofs.refuse.header_sound.Goals.{Else-not-is_bid, Else-not-is
 
 -- what each test says where the next one is reached
 
-abbrev words : Else-not-is_step → List ℕ
-words c = c.args.w.now
-
-stepped : (c : Else-not-is_step) → is_step (get_or (words c) 7 0) ≡ true
+stepped : (c : Else-not-is_step) → is_step (get_or (c.args.w.now) 7 0) ≡ true
 stepped c = sym c.is_step.ensures ∙ not_no c.is_step.result (ap not c.if-not-is_step.false)
 
-abbrev from-phase : Else-w-gt2 → Else-not-is_step
-from-phase c = c
-
-phase : (c : Else-w-gt2) → leb (get_or (words (from-phase c)) 2 0) 2 ≡ true
+phase : (c : Else-w-gt2) → leb (get_or (c.args.w.now) 2 0) 2 ≡ true
 phase c = le-leb _ 2 c.if-w-gt2.false
 
-abbrev from-close : Else-not-is_legal → Else-w-gt2
-from-close c = c
-
-close : (c : Else-not-is_legal) → let w = words (from-phase (from-close c)) in legal (get_or w 7 0) (get_or w 1 0) ≡ true
+close : (c : Else-not-is_legal) → let w = c.args.w.now in legal (get_or w 7 0) (get_or w 1 0) ≡ true
 close c = sym c.is_legal.ensures ∙ not_no c.is_legal.result (ap not c.if-not-is_legal.false)
 
-abbrev from-bid : Else-not-is_bid → Else-not-is_legal
-from-bid c = c
-
-best : (c : Else-not-is_bid) → let w = words (from-phase (from-close (from-bid c))) in is_bid (get_or w 7 0) (get_or w 3 0) ≡ true
+best : (c : Else-not-is_bid) → let w = c.args.w.now in is_bid (get_or w 7 0) (get_or w 3 0) ≡ true
 best c = sym c.is_bid.ensures ∙ not_no c.is_bid.result (ap not c.if-not-is_bid.false)
 
 pub returns-then-not-is_step : goal.returns-then-not-is_step
@@ -50,32 +36,30 @@ unfolding venue_of
 returns-then-w-gt2 c = sym (and_yes _ (stepped (goal.at.returns-then-w-gt2 c).Else-not-is_step) ∙ and_no _ (lt-leb _ 2 c.if-w-gt2.true))
 
 pub is_legal-requires : goal.is_legal-requires
-is_legal-requires c = answered_T refl (stepped (from-phase (goal.at.is_legal-requires c).Else-w-gt2))
+is_legal-requires c = answered_T refl (stepped (goal.at.is_legal-requires c).Else-not-is_step)
 
 pub returns-then-not-is_legal : goal.returns-then-not-is_legal
 unfolding venue_of
 returns-then-not-is_legal c =
-    sym (and_yes _ (stepped (from-phase (goal.at.returns-then-not-is_legal c).Else-w-gt2)) ∙ and_yes _ (phase (goal.at.returns-then-not-is_legal c).Else-w-gt2) ∙ and_no _ (sym c.is_legal.ensures ∙ not_yes c.is_legal.result (ap not c.if-not-is_legal.true)))
+    sym (and_yes _ (stepped (goal.at.returns-then-not-is_legal c).Else-not-is_step) ∙ and_yes _ (phase (goal.at.returns-then-not-is_legal c).Else-w-gt2) ∙ and_no _ (sym c.is_legal.ensures ∙ not_yes c.is_legal.result (ap not c.if-not-is_legal.true)))
 
 pub is_bid-requires : goal.is_bid-requires
-is_bid-requires c = answered_T refl (stepped (from-phase (from-close (goal.at.is_bid-requires c).Else-not-is_legal)))
+is_bid-requires c = answered_T refl (stepped (goal.at.is_bid-requires c).Else-not-is_step)
 
 pub returns-then-not-is_bid : goal.returns-then-not-is_bid
 unfolding venue_of
 returns-then-not-is_bid c =
-    let p = from-close (goal.at.returns-then-not-is_bid c).Else-not-is_legal in
-    sym (and_yes _ (stepped (from-phase p)) ∙ and_yes _ (phase p) ∙ and_yes _ (close (goal.at.returns-then-not-is_bid c).Else-not-is_legal) ∙ and_no _ (sym c.is_bid.ensures ∙ not_yes c.is_bid.result (ap not c.if-not-is_bid.true)))
+    let at = goal.at.returns-then-not-is_bid c in
+    sym (and_yes _ (stepped at.Else-not-is_step) ∙ and_yes _ (phase at.Else-w-gt2) ∙ and_yes _ (close (goal.at.returns-then-not-is_bid c).Else-not-is_legal) ∙ and_no _ (sym c.is_bid.ensures ∙ not_yes c.is_bid.result (ap not c.if-not-is_bid.true)))
 
 pub returns-then-w-gt-MOST_EVENTS : goal.returns-then-w-gt-MOST_EVENTS
 unfolding venue_of
 returns-then-w-gt-MOST_EVENTS c =
-    let q = from-bid (goal.at.returns-then-w-gt-MOST_EVENTS c).Else-not-is_bid in
-    let p = from-close q in
-    sym (and_yes _ (stepped (from-phase p)) ∙ and_yes _ (phase p) ∙ and_yes _ (close q) ∙ and_yes _ (best (goal.at.returns-then-w-gt-MOST_EVENTS c).Else-not-is_bid) ∙ and_no _ (lt-leb _ most_events c.if-w-gt-MOST_EVENTS.true))
+    let at = goal.at.returns-then-w-gt-MOST_EVENTS c in
+    sym (and_yes _ (stepped at.Else-not-is_step) ∙ and_yes _ (phase at.Else-w-gt2) ∙ and_yes _ (close at.Else-not-is_legal) ∙ and_yes _ (best (goal.at.returns-then-w-gt-MOST_EVENTS c).Else-not-is_bid) ∙ and_no _ (lt-leb _ most_events c.if-w-gt-MOST_EVENTS.true))
 
 pub returns : goal.returns
 unfolding venue_of
 returns c =
-    let q = from-bid (goal.at.returns c).Else-not-is_bid in
-    let p = from-close q in
-    sym (and_yes _ (stepped (from-phase p)) ∙ and_yes _ (phase p) ∙ and_yes _ (close q) ∙ and_yes _ (best (goal.at.returns c).Else-not-is_bid) ∙ and_yes _ (le-leb _ most_events c.if-w-gt-MOST_EVENTS.false) ∙ and_last _)
+    let at = goal.at.returns c in
+    sym (and_yes _ (stepped at.Else-not-is_step) ∙ and_yes _ (phase at.Else-w-gt2) ∙ and_yes _ (close at.Else-not-is_legal) ∙ and_yes _ (best (goal.at.returns c).Else-not-is_bid) ∙ and_yes _ (le-leb _ most_events c.if-w-gt-MOST_EVENTS.false) ∙ and_last _)

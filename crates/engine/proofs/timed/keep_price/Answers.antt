@@ -9,4 +9,4 @@ set_kept_count-requires c = (new_kept c.requires.ordered.0 c.keep.ensures).order
 pub returns : goal.returns
 returns c =
     let p = c.requires in
-    price_kept p.0.0 p.0.1 p.1 c.keep.ensures c.set_kept_count.ensures
+    price_kept p.ordered.0 p.ordered.1 p.w_value c.keep.ensures c.set_kept_count.ensures

@@ -32,7 +32,8 @@ keep_price-requires c =
     let x = c.args.x in
     let n = c.kept_count-n in
     let f = c.first_within-from in
-    keep_may w x c.requires.0 c.requires.1 n.result n.ensures f.result f.ensures.0 f.ensures.1
+    let may = keep_may w x c.requires.0 c.requires.1 n.result n.ensures f.result f.ensures.0 f.ensures.1 in
+    record { ordered = may.0; w_value = may.1 }
 
 pub new_tape-requires : goal.new_tape-requires
 new_tape-requires c =
