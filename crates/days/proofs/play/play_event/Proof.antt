@@ -40,7 +40,7 @@ number-of-requires c κs = search rules
 write-refusal-requires : tie.Need-write-refusal-requires
 write-refusal-requires c κs =
     let s = c.before.before.before.before.before.before.before.before.before.before.before.before.before.before in
-    (omega (arith, c.number_of_lem.ensures, refusal_range c.before.before.before.refusal.given.0.0), omega (arith, s.requires.1, c.before.before.before.before.before.before.reports.given.1))
+    (omega (arith, c.number_of.ensures, refusal_range c.before.before.before.refusal.given.0.0), omega (arith, s.requires.1, c.before.before.before.before.before.before.reports.given.1))
 
 same_length : tie.Need-same-length
 same_length c = search rules
@@ -66,7 +66,7 @@ returns-2 c =
     let f = c.before.before.before.before.before.before.refusal.given in
     let r = c.before.before.before.before.before.before.before.before.before.before.before.before in
     let s = r.before.before.before.before.before in
-    event_refused s.args.words.now _ s.args.reports.now _ s.args.event s.args.end s.requires.0 s.requires.1 s.requires.2 (omega (arith, r.before.before.before.before.slice-known.given 4)) r.apply-sound.ensures.0 (ap outcome_of_answer f.1) r.apply-sound.ensures.1 n.number_of_lem.ensures (omega (arith, n.number_of_lem.ensures, refusal_range f.0.0)) c.before.before.write-refusal.ensures.0
+    event_refused s.args.words.now _ s.args.reports.now _ s.args.event s.args.end s.requires.0 s.requires.1 s.requires.2 (omega (arith, r.before.before.before.before.slice-known.given 4)) r.apply-sound.ensures.0 (ap outcome_of_answer f.1) r.apply-sound.ensures.1 n.number_of.ensures (omega (arith, n.number_of.ensures, refusal_range f.0.0)) c.before.before.write-refusal.ensures.0
 
 pub play-event-spec : {M : Type 1} → statement M
 play-event-spec =
