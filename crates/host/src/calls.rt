@@ -29,8 +29,7 @@ fn copy_words(to: &mut [u32], from: &[u32])
 }
 
 // Makes the words a fresh venue at a step, those behind it kept; a refusal changes no word.
-#[unsafe(no_mangle)]
-pub extern "C" fn venue_open(words: &mut [u32], step: u32, close: u32) -> u32
+pub fn venue_open(words: &mut [u32], step: u32, close: u32) -> u32
     ensures { HostOpened words.old step close result words.new }
 {
     if words.len() < words::VENUE {
@@ -68,8 +67,7 @@ fn apply_event(words: &mut [u32], event: Event, reports: &mut [u8]) -> u32
 }
 
 // The event whose record stands at offset 0; a refusal changes no word and no byte.
-#[unsafe(no_mangle)]
-pub extern "C" fn venue_apply(words: &mut [u32], record: &[u8], reports: &mut [u8]) -> u32
+pub fn venue_apply(words: &mut [u32], record: &[u8], reports: &mut [u8]) -> u32
     ensures { HostApplied words.old «record».now reports.old result words.new reports.new }
 {
     match record::read_record(record, 0) {
@@ -79,8 +77,7 @@ pub extern "C" fn venue_apply(words: &mut [u32], record: &[u8], reports: &mut [u
 }
 
 // The byte count of the event record at offset 0; 0 stands for a refusal.
-#[unsafe(no_mangle)]
-pub extern "C" fn venue_record_check(bytes: &[u8]) -> u64
+pub fn venue_record_check(bytes: &[u8]) -> u64
     ensures { result ≡ end_or_zero (record_at bytes.now 0) }
 {
     match record::read_record(bytes, 0) {
@@ -90,8 +87,7 @@ pub extern "C" fn venue_record_check(bytes: &[u8]) -> u64
 }
 
 // The permitted price of a bid at a step; 0 stands for a refusal.
-#[unsafe(no_mangle)]
-pub extern "C" fn venue_permitted_price(step: u32, bid: u32) -> u32
+pub fn venue_permitted_price(step: u32, bid: u32) -> u32
     ensures { result ≡ value_or_zero (permitted_of step bid) }
 {
     match increments::permitted_price(step, bid) {

@@ -34,8 +34,7 @@ fn fill_number(answer: FillAnswer) -> u32
 }
 
 // Whether an entry with a mark, a price and shares would fill in full now, and how many orders were read to tell; nothing is changed.
-#[unsafe(no_mangle)]
-pub extern "C" fn venue_would_fill(words: &[u32], mark: u32, price: u32, shares: u32) -> u32
+pub fn venue_would_fill(words: &[u32], mark: u32, price: u32, shares: u32) -> u32
     ensures { result ≡ fill_number words.now mark price shares }
 {
     fill_number(fill::would_fill(words, mark, price, shares))

@@ -1,4 +1,4 @@
-// Calls for host programs, over the four layers, the records and the days. include/venue.h declares them for C.
+// Calls for host programs, over the four layers, the records and the days. The crate host_c exports each of them to C.
 #![tactic(auto)]
 
 pub mod calls;

@@ -24,8 +24,7 @@ fn copy_number(answer: CopyAnswer) -> u32
 }
 
 // The resting orders in a run of records, those behind them kept; a refusal changes no record.
-#[unsafe(no_mangle)]
-pub extern "C" fn venue_copy_out(words: &[u32], run: &mut [OrderRecord]) -> u32
+pub fn venue_copy_out(words: &[u32], run: &mut [OrderRecord]) -> u32
     ensures { (result ≡ host_answer (copy_outcome words.now (length run.old))) × (run.new ≡ copied words.now run.old) }
 {
     copy_number(copy::copy_out(words, run))
@@ -50,8 +49,7 @@ fn depth_number(answer: DepthAnswer) -> u64
 }
 
 // The displayed shares at a price in a run of records; side 0 is a buy, any other a sell.
-#[unsafe(no_mangle)]
-pub extern "C" fn venue_depth(run: &[OrderRecord], price: u32, side: u32) -> u64
+pub fn venue_depth(run: &[OrderRecord], price: u32, side: u32) -> u64
     ensures { result ≡ depth_number (depth_of run.now price (side_of side)) }
 {
     depth_number(depth::depth(run, price, side_of(side)))
@@ -68,8 +66,7 @@ fn watch_number(answer: WatchAnswer) -> u32
 }
 
 // A tape price at a step on the host's own record of close and phase; a refusal leaves it as it was.
-#[unsafe(no_mangle)]
-pub extern "C" fn venue_watch(watch: &mut Watch, step: u32, price: u32) -> u32
+pub fn venue_watch(watch: &mut Watch, step: u32, price: u32) -> u32
     ensures { (result ≡ host_answer (watch_count (watch_outcome step price))) × (watch.new ≡ watched step watch.old price) }
 {
     watch_number(restriction::watch(watch, step, price))

@@ -25,8 +25,7 @@ fn stop_number(stop: Stop) -> u32
 }
 
 // Plays the records from an offset on; progress gets the events played, the offset reached and the bytes written. Refusal 16 changes nothing.
-#[unsafe(no_mangle)]
-pub extern "C" fn venue_play(
+pub fn venue_play(
     words: &mut [u32],
     records: &[u8],
     from: u64,
