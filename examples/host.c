@@ -1,7 +1,7 @@
 /* A host program in C: checks event records, asks for permitted prices at both steps, watches a close, applies single events by venue_apply, those of a
    firm among them, asks whether entries would fill, and sends timed tape prices.
    Build and run, from the repository's root:
-   rt staticlib host && cc -Wall -Wextra -Iinclude examples/host.c target/staticlib/libhost.a -o target/host && target/host */
+   tools/libhost && cc -Wall -Wextra -Iinclude examples/host.c out/libhost.a -o out/host && out/host */
 #include <inttypes.h>
 #include <stdio.h>
 #include <venue.h>

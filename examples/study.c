@@ -4,7 +4,7 @@
    among them.
    examples/study.py is the same in Python.
    Build and run, from the repository's root:
-   rt staticlib host && cc -Wall -Wextra -Iinclude examples/study.c target/staticlib/libhost.a -o target/study && target/study */
+   tools/libhost && cc -Wall -Wextra -Iinclude examples/study.c out/libhost.a -o out/study && out/study */
 #include <inttypes.h>
 #include <stdio.h>
 #include <stdlib.h>

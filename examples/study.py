@@ -5,7 +5,7 @@ It prints, from these bytes alone, what becomes of order 1, and before the day e
 among them.
 examples/study.c is the same in C.
 Build and run, from the repository's root:
-rt staticlib host && cc -shared -o target/libvenue.so -Wl,--whole-archive target/staticlib/libhost.a -Wl,--no-whole-archive && python3 examples/study.py
+tools/libhost && cc -shared -o out/libvenue.so -Wl,--whole-archive out/libhost.a -Wl,--no-whole-archive && python3 examples/study.py
 """
 import re
 from ctypes import CDLL, POINTER, Structure, byref, c_size_t, c_uint8, c_uint32, c_uint64
@@ -54,7 +54,7 @@ class Progress(Structure):
     _fields_ = [(name, c_uint64) for name in ("events", "at", "bytes")]
 
 
-venue = CDLL("target/libvenue.so")
+venue = CDLL("out/libvenue.so")
 venue.venue_open.argtypes = [POINTER(c_uint32), c_size_t, c_uint32, c_uint32]
 venue.venue_open.restype = c_uint32
 venue.venue_play.argtypes = [POINTER(c_uint32), c_size_t, POINTER(c_uint8), c_size_t, c_uint64, POINTER(c_uint8), c_size_t,

@@ -1,5 +1,5 @@
-/* The calls of the venue for host programs. Link target/staticlib/libhost.a, which `rt staticlib host` writes, and compile with the header that
-   belongs to it: the size of an order record changes with the layout. */
+/* The calls of the venue for host programs. Link out/libhost.a, which tools/libhost builds, and compile with the header that belongs to it: the
+   size of an order record changes with the layout. */
 #ifndef VENUE_H
 #define VENUE_H
 
