@@ -175,7 +175,7 @@ def same(a, b):
 
     def bare(text):
         text = re.sub(r"(?m)^(use [\w.]+\.)\{(.*)\}$", lambda m: m[1] + "{" + ", ".join(sorted(m[2].split(", "))) + "}", text)
-        return "".join(text.split())
+        return "".join(text.split()).replace(",}", "}")
 
     return a is not None and b is not None and {p: bare(x) for p, x in a.items()} == {p: bare(x) for p, x in b.items()}
 
