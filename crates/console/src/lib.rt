@@ -1,35 +1,58 @@
-// Plays a stream of events, a close and then event records, and prints each report as a line of kind and fields and "0 n" for refusal n:
-// document 01, "Program `venue`", and document 02, No. 2. What is printed is gathered in a buffer and written in large pieces.
+// Plays a stream of events, a close and then event records, and writes each report as a line of kind and fields and "0 n" for refusal n:
+// document 01, "Program `venue`", and document 02, No. 2. A buffered writer gathers the lines and writes them in large pieces.
 #![tactic(auto)]
 
 mod line;
 
+ghost use Rattle.std.specs.Prelude.{◌≤◌, IfOk, vec_len};
+
 use days::{Stop, play};
 use engine::{OpenAnswer, open, refusals};
 use records::{FieldRead, record};
+use std::alloc::Global;
+use std::io;
+use std::io::{Read, Write};
 
-// Plays one input in a venue that is opened at a step.
-pub fn play(step: u32, input: &[u8]) {
-    let mut space = io::large_buffer();
-    let out: &mut [u8] = &mut space;
-    let end = play_close(step, input, out);
-    line::flush(out, end);
+// A program plays no more bytes of a stream.
+const MOST_BYTES: usize = 65536;
+
+// The first 65,536 bytes of a reader, or all where it has fewer.
+pub fn read_input<R: Read + Drop>(alloc: Global, from: R) -> io::Result<Vec<u8>>
+    ensures { IfOk result (λ input. vec_len input ≤ 65536) }
+{
+    let mut input = Vec::new(alloc);
+    from.take(MOST_BYTES as u64).read_to_end(&mut input)?;
+    // no reader gives more: this cuts nothing off, and says so
+    input.truncate(MOST_BYTES);
+    Ok(input)
+}
+
+// Plays one input in a venue that is opened at a step, and writes what is left in the writer's buffer.
+pub fn play<W: Write>(step: u32, input: &[u8], out: &mut W) -> io::Result<()> {
+    play_close(step, input, out)?;
+    out.flush()
 }
 
 // "a close as one seven-bit number (9, 10 or 12 as in a record, then 3), then records"
-fn play_close(step: u32, input: &[u8], out: &mut [u8]) -> usize {
+fn play_close<W: Write>(step: u32, input: &[u8], out: &mut W) -> io::Result<()> {
     match record::read_field(input, 0) {
-        FieldRead::Refused(refusal) => line::put_refusal(out, 0, record::refusal_number(refusal)),
+        FieldRead::Refused(refusal) => line::put_refusal(out, record::refusal_number(refusal)),
         FieldRead::Field { value, end } => play_day(step, input, end, value, out),
     }
 }
 
 // Opens the venue and plays the records behind the close.
-fn play_day(step: u32, input: &[u8], from: usize, close: u32, out: &mut [u8]) -> usize {
+fn play_day<W: Write>(
+    step: u32,
+    input: &[u8],
+    from: usize,
+    close: u32,
+    out: &mut W,
+) -> io::Result<()> {
     let opened = open::open(step, close);
     let answer = opened.answer;
     match answer {
-        OpenAnswer::NotOpened(refusal) => line::put_refusal(out, 0, refusals::number_of(refusal)),
+        OpenAnswer::NotOpened(refusal) => line::put_refusal(out, refusals::number_of(refusal)),
         OpenAnswer::Fresh => {
             let mut words = opened.words;
             play_records(&mut words, input, from, out)
@@ -39,29 +62,30 @@ fn play_day(step: u32, input: &[u8], from: usize, close: u32, out: &mut [u8]) ->
 
 // "9 to 12 .. end it. An input that ends right after the close or after a record prints nothing for that end". A stop is looked at where a call plays
 // nothing: the call before it has then printed the events before it.
-fn play_records(words: &mut [u32], input: &[u8], from: usize, out: &mut [u8]) -> usize {
-    let mut space = [0u8; 65536];
-    let reports: &mut [u8] = &mut space;
-    let mut places = [0u64; 4096];
-    let ends: &mut [u64] = &mut places;
+fn play_records<W: Write>(
+    words: &mut [u32],
+    input: &[u8],
+    from: usize,
+    out: &mut W,
+) -> io::Result<()> {
+    let mut reports = [0u8; 65536];
+    let mut ends = [0u64; 4096];
     let mut next = from;
-    let mut at = 0;
     while next < input.len() {
-        let played = play::play(words, input, next, reports, ends);
-        at = line::put_reports(out, at, reports, played.end);
+        let played = play::play(words, input, next, &mut reports, &mut ends);
+        line::put_reports(out, &reports, played.end)?;
         if played.at <= next {
-            let stop = played.stop;
-            return put_stop(out, at, stop);
+            return put_stop(out, played.stop);
         }
         next = played.at;
     }
-    at
+    Ok(())
 }
 
 // The line of a record that can't be read. There is room for an event, so nothing else stops one from being played.
-fn put_stop(out: &mut [u8], at: usize, stop: Stop) -> usize {
+fn put_stop<W: Write>(out: &mut W, stop: Stop) -> io::Result<()> {
     if let Stop::Unreadable(refusal) = stop {
-        return line::put_refusal(out, at, record::refusal_number(refusal));
+        return line::put_refusal(out, record::refusal_number(refusal));
     }
-    at
+    Ok(())
 }

@@ -1,5 +1,4 @@
-// A struct or a run of structs can't be lent by code that the toolchain covers by itself. These take the values and lend them, and are proved
-// by hand.
+// Watch, copy out and depth are lent a struct or a run of structs. These take the values, lend them, and give back what was made of them.
 ghost use Rattle.std.specs.Prelude.{◌≡◌, replicate};
 ghost use Rattle.prices.specs.Watch.{watched, watch_outcome, outcome_of_watch};
 ghost use Rattle.book.specs.rules.Depth.{depth_of, outcome_of_depth};

@@ -4,116 +4,97 @@
 
 mod questions;
 
-ghost use Rattle.io.specs.Counts.{IsPrefixLen};
+ghost use Rattle.std.specs.Prelude.{◌≤◌, IfOk, vec_len};
 
-use libc::STDOUT_FILENO;
 use prices::increments;
+use std::alloc::{AllocError, Global};
+use std::io::{BufWriter, Write};
+use std::rt::Files;
+use std::{env, fs, io};
 
-// The content of a file; a missing one is empty.
-fn read_file(name: &[u8], content: &mut [u8]) -> usize
-    ensures { IsPrefixLen result content.new }
+// The first 65,536 bytes of a file; a missing one is empty.
+fn read_file(rt: &(impl Files + Eprint + AllocGlobal), name: &str) -> io::Result<Vec<u8>>
+    ensures { IfOk result (λ content. vec_len content ≤ 65536) }
 {
-    let file = os::open_read(name);
-    if file < 0 {
-        os::fail(name);
-        return 0;
+    match fs::open(rt, name) {
+        Ok(file) => console::read_input(rt.alloc(), file),
+        Err(e) => {
+            eprintln!(rt; "{name}: {e}")?;
+            Ok(Vec::new(rt.alloc()))
+        }
     }
-    let count = io::read_full(file, content);
-    libc::close(file);
-    count
 }
 
-fn play_file(step: u32, name: &[u8]) {
-    let mut input = io::large_buffer();
-    let count = read_file(name, &mut input);
-    console::play(step, &input[..count]);
+fn play_file(
+    rt: &(impl Files + Eprint + AllocGlobal),
+    step: u32,
+    name: &str,
+    out: &mut impl Write,
+) -> io::Result<()> {
+    let input = read_file(rt, name)?;
+    console::play(step, &input, out)
 }
 
 // Whether an argument is `50`.
-fn is_half_cent(argument: &[u8]) -> bool {
-    if argument.len() == 2 {
-        if argument[0] == b'5' {
-            return argument[1] == b'0';
-        }
-    }
-    false
+fn is_half_cent(argument: &str) -> bool {
+    argument == "50"
 }
 
 // Whether a name ends in `ask`.
-fn is_questions(name: &[u8]) -> bool {
-    let n = name.len();
-    if n < 3 {
-        return false;
-    }
-    if name[n - 3] == b'a' {
-        if name[n - 2] == b's' {
-            return name[n - 1] == b'k';
-        }
-    }
-    false
+fn is_questions(name: &str) -> bool {
+    name.ends_with("ask")
 }
 
-fn put(name: &mut [u8], at: usize, byte: u8) {
-    if at < name.len() {
-        name[at] = byte;
-    }
+// The name with `bin` in the place of `ask`.
+fn name_stream(alloc: Global, name: &str) -> Result<String, AllocError> {
+    let stem = name.strip_suffix("ask").unwrap_or(name);
+    format!(in alloc; "{stem}bin")
 }
 
-// The name with `bin` in the place of its last three bytes.
-fn name_stream(name: &mut [u8]) {
-    let n = name.len();
-    if n < 3 {
-        return;
-    }
-    put(name, n - 3, b'b');
-    put(name, n - 2, b'i');
-    put(name, n - 1, b'n');
-}
-
-// The stream that the questions of argument i are about.
-fn read_stream(i: usize, content: &mut [u8]) -> usize
-    ensures { IsPrefixLen result content.new }
+// The stream that the questions of a file are about.
+fn read_stream(rt: &(impl Files + Eprint + AllocGlobal), name: &str) -> io::Result<Vec<u8>>
+    ensures { IfOk result (λ content. vec_len content ≤ 65536) }
 {
-    let mut space = io::buffer();
-    let length = os::arg(i, &mut space);
-    let name = &mut space[..length];
-    name_stream(name);
-    read_file(name, content)
+    let stream = name_stream(rt.alloc(), name)?;
+    read_file(rt, stream.as_str())
 }
 
-// The questions of argument i, which is a file's name.
-fn ask_file(step: u32, i: usize, name: &[u8]) {
-    let mut text = io::large_buffer();
-    let text_count = read_file(name, &mut text);
-    let mut stream = io::large_buffer();
-    let stream_count = read_stream(i, &mut stream);
-    questions::ask(step, &stream[..stream_count], &text[..text_count]);
+// The questions of a file.
+fn ask_file(
+    rt: &(impl Files + Eprint + AllocGlobal),
+    step: u32,
+    name: &str,
+    out: &mut impl Write,
+) -> io::Result<()> {
+    let text = read_file(rt, name)?;
+    let stream = read_stream(rt, name)?;
+    questions::ask(step, &stream, &text, out)
 }
 
 // An argument: `50`, a stream to play at the step, or questions. The result is the step for the next one.
-fn play_argument(step: u32, i: usize) -> u32 {
-    let mut space = io::buffer();
-    let length = os::arg(i, &mut space);
-    let argument = &space[..length];
+fn play_argument(
+    rt: &(impl Files + Eprint + AllocGlobal),
+    step: u32,
+    argument: &str,
+    out: &mut impl Write,
+) -> io::Result<u32> {
     if is_half_cent(argument) {
-        return increments::HALF_CENT;
+        return Ok(increments::HALF_CENT);
     }
-    io::write_all(STDOUT_FILENO, argument);
-    io::write_all(STDOUT_FILENO, b"\n");
+    writeln!(out, "{argument}")?;
     if is_questions(argument) {
-        ask_file(step, i, argument);
+        ask_file(rt, step, argument, out)?;
     } else {
-        play_file(step, argument);
+        play_file(rt, step, argument, out)?;
     }
-    step
+    Ok(step)
 }
 
-fn main() {
-    let count = os::arg_count();
+fn main(rt: HostRuntime) -> io::Result<()> {
+    let mut out = BufWriter::new(rt.alloc(), io::writer(&rt))?;
     let mut step = increments::CENT;
-    let mut i = 1;
-    while i < count {
-        step = play_argument(step, i);
-        i += 1;
+    for argument in env::args(&rt)?.skip(1) {
+        step = play_argument(&rt, step, argument.as_str(), &mut out)?;
     }
+    out.flush()
 }

@@ -1,8 +1,9 @@
 // Asks whether entries would fill (document 02, No. 4): questions, a line "mark price shares" each, of the venue after a stream. It prints "1 n" for a yes
 // and "2 n" for a no, n orders being read, and "0 n" for refusal n.
 use engine::{FillAnswer, OpenAnswer, apply, fill, open, refusals};
-use libc::STDOUT_FILENO;
 use records::{FieldRead, RecordRead, record};
+use std::io;
+use std::io::Write;
 
 const HIGHEST_WORD: u64 = 4_294_967_295;
 
@@ -13,15 +14,12 @@ struct Decimal {
     end: usize,
 }
 
-fn print_answer(kind: u64, number: u64) {
-    io::print_decimal(STDOUT_FILENO, kind);
-    io::write_all(STDOUT_FILENO, b" ");
-    io::print_decimal(STDOUT_FILENO, number);
-    io::write_all(STDOUT_FILENO, b"\n");
+fn print_answer(out: &mut impl Write, kind: u64, number: u64) -> io::Result<()> {
+    writeln!(out, "{kind} {number}")
 }
 
-fn print_refusal(number: u32) {
-    print_answer(0, number as u64);
+fn print_refusal(out: &mut impl Write, number: u32) -> io::Result<()> {
+    print_answer(out, 0, number as u64)
 }
 
 // What a byte stands for; 10 and above is no digit.
@@ -63,7 +61,12 @@ fn word_of(value: u64) -> u32 {
 }
 
 // The question at an offset. The result is the offset behind it.
-fn answer_question(words: &[u32], text: &[u8], from: usize) -> usize {
+fn answer_question(
+    words: &[u32],
+    text: &[u8],
+    from: usize,
+    out: &mut impl Write,
+) -> io::Result<usize> {
     let mark = read_decimal(text, from);
     let price = read_decimal(text, mark.end);
     let shares = read_decimal(text, price.end);
@@ -73,28 +76,29 @@ fn answer_question(words: &[u32], text: &[u8], from: usize) -> usize {
         word_of(price.value),
         word_of(shares.value),
     ) {
-        FillAnswer::Refused(refusal) => print_refusal(refusals::number_of(refusal)),
+        FillAnswer::Refused(refusal) => print_refusal(out, refusals::number_of(refusal))?,
         FillAnswer::Told(front) => {
             let read = front.read as u64;
             if front.fills {
-                print_answer(1, read);
+                print_answer(out, 1, read)?;
             } else {
-                print_answer(2, read);
+                print_answer(out, 2, read)?;
             }
         }
     }
-    shares.end
+    Ok(shares.end)
 }
 
-fn answer_questions(words: &[u32], text: &[u8]) {
+fn answer_questions(words: &[u32], text: &[u8], out: &mut impl Write) -> io::Result<()> {
     let mut at = 0;
     while at < text.len() {
-        let next = answer_question(words, text, at);
+        let next = answer_question(words, text, at, out)?;
         if next <= at {
-            return;
+            return Ok(());
         }
         at = next;
     }
+    Ok(())
 }
 
 // The event at an offset. The result is the offset behind it, or the same where no record can be read.
@@ -121,23 +125,30 @@ fn apply_records(words: &mut [u32], stream: &[u8], from: usize) {
     }
 }
 
-fn ask_after(step: u32, stream: &[u8], from: usize, close: u32, questions: &[u8]) {
+fn ask_after(
+    step: u32,
+    stream: &[u8],
+    from: usize,
+    close: u32,
+    questions: &[u8],
+    out: &mut impl Write,
+) -> io::Result<()> {
     let opened = open::open(step, close);
     let answer = opened.answer;
     match answer {
-        OpenAnswer::NotOpened(refusal) => print_refusal(refusals::number_of(refusal)),
+        OpenAnswer::NotOpened(refusal) => print_refusal(out, refusals::number_of(refusal)),
         OpenAnswer::Fresh => {
             let mut words = opened.words;
             apply_records(&mut words, stream, from);
-            answer_questions(&words, questions);
+            answer_questions(&words, questions, out)
         }
     }
 }
 
 // All questions, of the venue at a step after a stream: a close, then records.
-pub fn ask(step: u32, stream: &[u8], questions: &[u8]) {
+pub fn ask(step: u32, stream: &[u8], questions: &[u8], out: &mut impl Write) -> io::Result<()> {
     match record::read_field(stream, 0) {
-        FieldRead::Refused(refusal) => print_refusal(record::refusal_number(refusal)),
-        FieldRead::Field { value, end } => ask_after(step, stream, end, value, questions),
+        FieldRead::Refused(refusal) => print_refusal(out, record::refusal_number(refusal)),
+        FieldRead::Field { value, end } => { ask_after(step, stream, end, value, questions, out) }
     }
 }

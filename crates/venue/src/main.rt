@@ -1,11 +1,12 @@
 // Program `venue`: plays the first 65,536 bytes of standard input, at a step of 100.
 #![tactic(auto)]
 
-use libc::STDIN_FILENO;
 use prices::increments;
+use std::io;
+use std::io::BufWriter;
 
-fn main() {
-    let mut input = io::large_buffer();
-    let count = io::read_full(STDIN_FILENO, &mut input);
-    console::play(increments::CENT, &input[..count]);
+fn main(rt: HostRuntime) -> io::Result<()> {
+    let input = console::read_input(rt.alloc(), rt.reader())?;
+    let mut out = BufWriter::new(rt.alloc(), io::writer(&rt))?;
+    console::play(increments::CENT, &input, &mut out)
 }

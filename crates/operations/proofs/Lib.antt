@@ -1,3 +1,0 @@
--- Walks that the proofs of lend.rt share.
-mod LocalRun
-mod LentDepth
