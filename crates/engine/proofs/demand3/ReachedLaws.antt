@@ -2,7 +2,7 @@
 use Prim.Native.Nat.{ℕ, ◌≤◌, ◌<◌}
 use native.Mathlib.Omega.{arith}
 use mathlib.Core.Path.{◌≡◌, refl, subst}
-use mathlib.Core.Bool.{Bool, true, false, not, ◌&&◌}
+use mathlib.Core.Bool.{Bool, not, ◌&&◌}
 use mathlib.Core.Option.{Option, none, some}
 use mathlib.Core.List.{List, [], ◌∷◌}
 use lib.Dec.{T, T_not, leb, ltb, eqb, leb→le}
@@ -14,7 +14,7 @@ use Rattle.engine.specs.declared.Event.{Event}
 use Rattle.engine.specs.declared.Event.TheVariants.{Entry as entry, Cancel as cancel, Bid as bid, Tape as tape, DayEnd as day_end, OwnedEntry as owned_entry, TimedTape as timed_tape}
 use Rattle.engine.specs.rules.Venue.{Venue, opened, opening}
 use Rattle.engine.specs.rules.Sound.{sound}
-use Rattle.engine.specs.rules.Refusals.{refuse_unless, first_of, refusal_of_owner, refusal_of_entry, refusal_of_kind, refusal}
+use Rattle.engine.specs.rules.Refusals.{refuse_unless, refusal_of_owner, refusal_of_entry, refusal_of_kind, refusal}
 use Rattle.engine.specs.rules.Run.{step_unless, step, Call, run}
 use Rattle.engine.specs.claims.Reached.{ReachedIsSound, StampsBounded}
 use Rattle.engine.proofs.refinement.RefusalLaws.{by_refusal, by_first, terms_by, codes_by, owner_by, place_by, time_by, NotRefused, Unless, refusal_known}

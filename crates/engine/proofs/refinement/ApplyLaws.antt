@@ -16,7 +16,7 @@ use Rattle.book.proofs.refinement.WordLaws.{book_is_book}
 use Rattle.engine.specs.declared.Event.{Event}
 use Rattle.engine.specs.rules.Venue.{last_id_after}
 use Rattle.engine.specs.rules.Refusals.{refuse_unless, refusal_of_kind, least_buffer, refusal}
-use Rattle.engine.specs.rules.Sound.{most_events, sound}
+use Rattle.engine.specs.rules.Sound.{most_events}
 use Rattle.engine.specs.rules.Run.{Step, step_unless, step}
 use Rattle.engine.specs.rules.Records.{reports_bytes}
 use Rattle.engine.specs.claims.RoundTrips.{Word}

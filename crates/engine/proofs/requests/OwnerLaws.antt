@@ -18,10 +18,10 @@ use Rattle.book.specs.rules.Matching.{Execution, Happening, traded, withdrawn, e
 use Rattle.book.specs.rules.Sound.{ids_rise, stamps_differ}
 use Rattle.book.specs.rules.Words.{is_book}
 use Rattle.book.specs.claims.OwnOrders.{executions_of}
-use Rattle.book.proofs.definitions.OrderLaws.{id_of, stamp_of, Other, Distinct, taken_all, all_taken, mem_taken, insert_taken, without_all, without_other, without_differ, Found, find_found}
+use Rattle.book.proofs.definitions.OrderLaws.{id_of, stamp_of, Other, Distinct, taken_all, all_taken, mem_taken, insert_taken, without_all, without_differ, Found, find_found}
 use Rattle.book.proofs.definitions.CounterpartyLaws.{Reached}
 use Rattle.book.proofs.definitions.MeetingLaws.{execution_by, trading_known, withdrawing_known, meeting_by_owner}
-use Rattle.book.proofs.definitions.MatchingLaws.{after_trade_all, after_trade_differ}
+use Rattle.book.proofs.definitions.MatchingLaws.{after_trade_all}
 use Rattle.book.proofs.definitions.RisingLaws.{ids_rise_rises, rises_ids_rise, rises_without}
 use Rattle.book.proofs.definitions.OnlyTradingLaws.{unowned_only_trades}
 use Rattle.book.proofs.definitions.OwnOrderLaws.{trades_as_without_own}
@@ -47,9 +47,8 @@ use Rattle.engine.specs.rules.Answers.{count_of, buffer_after}
 use Rattle.engine.specs.rules.Layout.{venue_of, step_in}
 use Rattle.engine.specs.steps.Steps.{move_in_pass}
 use Rattle.engine.specs.claims.Calls.{AppliedCall, Chain}
-use Rattle.engine.specs.claims.Reading.{Entered}
-use Rattle.engine.specs.claims.Owners.{Owners, no_owners, owners_after, works_now, read_owners, reading_owners, owners_of, FirmsApart, NoFirmTradesWithItself, OwnersShown, OwnersAreShown, FirmsApartInCalls, NoFirmTradesWithItselfInCalls, unowned_work, unowned_entering, unowned_move, unowned_turn, unowned_pass, unowned_effect, unowned_unless, unowned_step, Unowned, NamesNoOwner, UnownedAsBefore, KindOneAsBefore, unowned_step_in, UnownedCallsAsBefore, executions_in, executions_without_own, EntriesTradeAsWithoutOwn, RepricedTradeAsWithoutOwn, WithoutOwnInBytes, EntriesTradeAsWithoutOwnInCalls}
-use Rattle.engine.proofs.refinement.RefusalLaws.{EntryAllowed, Allowed, NotRefused, Unless, refusal_known}
+use Rattle.engine.specs.claims.Owners.{Owners, no_owners, works_now, read_owners, reading_owners, owners_of, FirmsApart, NoFirmTradesWithItself, OwnersShown, OwnersAreShown, FirmsApartInCalls, NoFirmTradesWithItselfInCalls, unowned_work, unowned_entering, unowned_move, unowned_turn, unowned_pass, unowned_effect, unowned_unless, unowned_step, Unowned, NamesNoOwner, UnownedAsBefore, KindOneAsBefore, unowned_step_in, UnownedCallsAsBefore, executions_in, executions_without_own, EntriesTradeAsWithoutOwn, RepricedTradeAsWithoutOwn, WithoutOwnInBytes, EntriesTradeAsWithoutOwnInCalls}
+use Rattle.engine.proofs.refinement.RefusalLaws.{Allowed, NotRefused, Unless, refusal_known}
 use Rattle.engine.proofs.refinement.OpeningLaws.{opening_known, opened_book, opened_venue, step_in_lem}
 use Rattle.engine.proofs.demand3.MarketLaws.{HasPermitted}
 use Rattle.engine.proofs.demand3.TallyLaws.{set_at_same, set_at_other}

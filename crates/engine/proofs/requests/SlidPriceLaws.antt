@@ -4,7 +4,7 @@ use native.Mathlib.Omega.{arith}
 use native.Mathlib.Decide.{ℕ_discrete}
 use mathlib.Core.Path.{◌≡◌, refl, ap, sym, ◌∙◌, subst}
 use mathlib.Core.Bool.{Bool, not}
-use mathlib.Core.List.{List, [], map, foldl-append, Memᴰ}
+use mathlib.Core.List.{List, [], map, foldl-append}
 use mathlib.Core.Option.{some}
 use lib.Dec.{T, leb, ltb, eqb, leb→le, le→leb, eqb→eq, T_not}
 use Rattle.numbers.specs.Tests.{All}
@@ -12,16 +12,14 @@ use Rattle.numbers.proofs.TestLaws.{by_test, and_T, T_and, eq→T, ne→T, pick_
 use Rattle.prices.specs.Prices.{highest, is_step, legal}
 use Rattle.book.specs.declared.Order.{Order}
 use Rattle.book.specs.rules.Orders.{without}
-use Rattle.book.specs.rules.Matching.{Happening, traded, withdrawn, Meeting, meeting}
+use Rattle.book.specs.rules.Matching.{Happening, traded, withdrawn, meeting}
 use Rattle.book.specs.rules.Words.{is_book}
 use Rattle.book.proofs.definitions.OrderLaws.{Other, taken_all, all_taken, mem_taken, insert_taken, without_all, without_other}
-use Rattle.book.proofs.definitions.CounterpartyLaws.{Reached}
 use Rattle.book.proofs.definitions.MatchingLaws.{meeting_all}
 use Rattle.engine.specs.declared.Market.{Market}
 use Rattle.engine.specs.declared.Entry.{Entry}
 use Rattle.engine.specs.declared.Move.{Move}
 use Rattle.engine.specs.declared.Move.TheVariants.{Stay, Cancel, Reprice}
-use Rattle.engine.specs.rules.Reports.{accepted, repriced}
 use Rattle.engine.specs.rules.Working.{limit_of, working_price, order_of, happened}
 use Rattle.engine.specs.rules.Pass.{displayed_clear, move_down, slide_once, slide_down, move_of, at_new_price}
 use Rattle.engine.specs.rules.Venue.{Venue, opened}
@@ -30,13 +28,12 @@ use Rattle.engine.specs.rules.Layout.{venue_of}
 use Rattle.engine.specs.steps.Steps.{move_in_pass}
 use Rattle.engine.specs.claims.Account.{set_at}
 use Rattle.engine.specs.claims.Calls.{AppliedCall, Chain}
-use Rattle.engine.specs.claims.Reading.{Entered, read_from}
+use Rattle.engine.specs.claims.Reading.{read_from}
 use Rattle.engine.specs.claims.SlidPrices.{PricesGiven, limit_of_short, no_prices, before_reports, accepted_at, repriced_to, Prices, start_prices, read_price, reading_prices, prices_of, SlidAtEntry, last_price, OnlyFall, NeverRises, PricesFall, PricesOnlyFall, PricesFallInCalls, PricesOnlyFallInCalls, AdjustedIsAboveLimit}
-use Rattle.engine.proofs.refinement.RefusalLaws.{EntryAllowed}
 use Rattle.engine.proofs.refinement.OpeningLaws.{opening_known, opened_book, opened_venue}
 use Rattle.engine.proofs.demand3.MarketLaws.{permitted_now_above}
 use Rattle.engine.proofs.demand3.TallyLaws.{set_at_same, set_at_other}
-use Rattle.engine.proofs.demand3.SoundLaws.{SoundBook, SoundWork, book_distinct, book_others, book_order, SoundVenue}
+use Rattle.engine.proofs.demand3.SoundLaws.{book_distinct, book_others, book_order}
 use Rattle.engine.proofs.demand3.CallLaws.{call_of, fresh_run}
 use Rattle.engine.proofs.requests.AccountLaws.{KeptByEntry, KeptByRepricing, KeptByMeeting, Kept, run_reads, opened_reads, run_front}
 use Rattle.engine.proofs.requests.StampLaws.{opened_stamps}

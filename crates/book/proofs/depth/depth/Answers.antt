@@ -2,7 +2,6 @@ use Prim.Native.Nat.{ℕ, ◌+◌}
 use native.Mathlib.Omega.{arith}
 use mathlib.Core.Path.{◌≡◌, ap, ◌∙◌}
 use lib.ListN.{length, get_or}
-use borrow.Author.Rules.{rules}
 use Rattle.book.specs.rules.Depth.{shares_shown, depth_outcome}
 use Rattle.book.specs.steps.LentRuns.{records_read, empty_record}
 use Rattle.book.proofs.refinement.DepthLaws.{shown_to, shown_none, shown_next, read_few, depth_is}

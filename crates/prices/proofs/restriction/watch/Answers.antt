@@ -1,7 +1,6 @@
 -- The record with the phase that the watch answers, and the answer. Assumes nothing.
 use Prim.Native.Nat.{ℕ}
 use mathlib.Core.Path.{ap}
-use Rattle.prices.specs.declared.Watch.{Watch}
 use Rattle.prices.specs.Watch.{watched}
 use Rattle.prices.proofs.restriction.watch.Goals as goal
 
