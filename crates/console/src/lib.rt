@@ -4,7 +4,7 @@
 
 mod line;
 
-ghost use Rattle.std.specs.Prelude.{◌≤◌, IfOk, vec_len};
+ghost use Rattle.std.specs.Prelude.{◌≡◌, ◌≤◌, IfOk, IfSome, take, vec_len};
 
 use days::{Stop, play};
 use engine::{OpenAnswer, open, refusals};
@@ -18,7 +18,8 @@ const MOST_BYTES: usize = 65536;
 
 // The first 65,536 bytes of a reader, or all where it has fewer.
 pub fn read_input<R: Read + Drop>(alloc: Global, from: R) -> io::Result<Vec<u8>>
-    ensures { IfOk result (λ input. vec_len input ≤ 65536) }
+    ensures bound { IfOk result (λ input. vec_len input ≤ 65536) }
+    ensures front { IfOk result (λ input. IfSome (R.remaining from) (λ bytes. input.items ≡ take 65536 bytes)) }
 {
     let mut input = Vec::new(alloc);
     from.take(MOST_BYTES as u64).read_to_end(&mut input)?;
