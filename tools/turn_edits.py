@@ -138,7 +138,7 @@ def places(a, b):
     return at
 
 
-def shortest(old, new, text):
+def shortest(old, new, text, short=140):
     """The pair (old, new) of two lines: the whole lines where they are short, and else what differs with as many words beside it as stand once in text."""
     # an import that gets more names
     had, has = (re.fullmatch(r"(use [\w.]+\.\{)(.*)\}", x) for x in (old, new))
@@ -146,7 +146,7 @@ def shortest(old, new, text):
         names, more = had[2].split(", "), has[2].split(", ")
         if set(names) < set(more):
             return had[1] + names[0], had[1] + ", ".join([x for x in more if x not in names] + names[:1])
-    if len(old.strip()) <= 140 and text.count(old.strip()) == 1 and new.strip():
+    if len(old.strip()) <= short and text.count(old.strip()) == 1 and new.strip():
         return old.strip(), new.strip()
     a, b = (re.findall(r"[\w'₀-₉-]+|\s+|.", x) for x in (old, new))
     p = 0
