@@ -43,7 +43,7 @@ def renamed(lines, texts, crate):
         near = NEAR.search(line)
         offered = [x.strip().strip("`").lstrip(".") for x in near[1].split(",")] if near else []
         offered = (goals if m[2] else []) + offered
-        like = [x for x in offered if words(x) == words(old)] or [x for x in offered if m[2] and x in goals]
+        like = [x for x in offered if words(x) == words(old)] or [x for x in offered if m[2] and x in goals and x.split("-")[:2] == old.split("-")[:2]]
         if like and like[0] != old:
             found.add((m[1], old, like[0]))
     return sorted(found)
