@@ -8,9 +8,10 @@ library); a plain word is added with an underscore. Functions, fields and consta
 their names. It rewrites crates/**/*.antt, the ghost parts of crates/**/*.rt, crates/*/must-fail/*.edit and tests/edits/**/*.edit, and
 prints names that fall together. --check writes nothing; --map writes the old and new names as lines of two columns.
 """
-import collections, glob, os, re, sys
+import collections, glob, os, re, subprocess, sys
 
-KIT = "/opt/rattle/rattle"
+# the kit's library, beside the page that `rt doc` names
+KIT = os.path.join(os.path.dirname(subprocess.run(["rt", "doc"], capture_output=True, text=True, check=True).stdout.strip()), "rattle")
 WORD = re.compile(r"[A-Za-z_«][\w₀-₉'′»·-]*")
 DECL = re.compile(r"^[ ]*(?:(?:pub|abbrev|unfoldable|opaque)[ ]+)*(record |data |ruleset )?([A-Za-z][\w₀-₉'′-]*)[ ]*(?:[:({]| [A-Za-z(\[{].*[:=])")
 FIELD = re.compile(r"^[ ]+(?:pub )([a-z][\w₀-₉'′-]*) :")

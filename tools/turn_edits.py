@@ -10,7 +10,7 @@ without an edit), and wants the very file of the edit's round, as far as the edi
 """
 import difflib, glob, json, os, re, shutil, subprocess, sys
 
-PORT = "/opt/rattle/port/port.py"
+PORT = os.path.join(os.path.dirname(subprocess.run(["rt", "doc"], capture_output=True, text=True, check=True).stdout.strip()), "port", "port.py")
 HERE = os.path.dirname(os.path.dirname(os.path.realpath(__file__)))
 GAP = 3  # edits of one round stand that many lines apart
 
