@@ -43,11 +43,7 @@ def renamed(lines, texts, crate):
         near = NEAR.search(line)
         offered = [x.strip().strip("`").lstrip(".") for x in near[1].split(",")] if near else []
         offered = (goals if m[2] else []) + offered
-<<<<<<< HEAD
         like = [x for x in offered if words(x) == words(old)] or [x for x in offered if m[2] and x in goals and x.split("-")[:2] == old.split("-")[:2]]
-=======
-        like = [x for x in offered if words(x) == words(old)] or [x for x in offered if m[2] and x in goals]
->>>>>>> dc71686 (Edits that turn a condition carry the names of goals that it changes, so that they are refused for what they mean: tools/edit_names.py)
         if like and like[0] != old:
             found.add((m[1], old, like[0]))
     return sorted(found)
