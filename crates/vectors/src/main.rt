@@ -82,6 +82,8 @@ fn play_argument(
         return Ok(increments::HALF_CENT);
     }
     writeln!(out, "{argument}")?;
+    // so that what is said of a missing file stands behind its name also where both go to one place
+    out.flush()?;
     if is_questions(argument) {
         ask_file(rt, step, argument, out)?;
     } else {
