@@ -1,31 +1,39 @@
 // Plays a stream of events, a close and then event records, and writes each report as a line of kind and fields and "0 n" for refusal n:
-// document 01, "Program `venue`", and document 02, No. 2. A buffered writer gathers the lines and writes them in large pieces.
+// document 01, "Program `venue`", and document 02, No. 2. A buffer gathers the lines, which are written in large pieces.
 #![tactic(auto)]
 
 mod line;
 
-ghost use Rattle.std.specs.Prelude.{◌≡◌, ◌≤◌, IfOk, IfSome, take, vec_len};
+ghost use Rattle.std.specs.Prelude.{◌≡◌, ◌≤◌, IfOk, IfSome, length, take};
 
 use days::{Stop, play};
 use engine::{OpenAnswer, open, refusals};
 use records::{FieldRead, record};
-use std::alloc::Global;
 use std::io;
-use std::io::{Read, Write};
+use std::io::{BufWriter, Read, Write};
 
-// A program plays no more bytes of a stream.
-const MOST_BYTES: usize = 65536;
-
-// The first 65,536 bytes of a reader, or all where it has fewer.
-pub fn read_input<R: Read + Drop>(alloc: Global, from: R) -> io::Result<Vec<u8>>
-    ensures bound { IfOk result (λ input. vec_len input ≤ 65536) }
-    ensures front { IfOk result (λ input. IfSome (R.remaining from) (λ bytes. input.items ≡ take 65536 bytes)) }
+// The first 65,536 bytes of a reader, or all where it has fewer: no program plays more of a stream. The result is how many came.
+pub fn read_input<R: Read>(from: &mut R, input: &mut [u8; 65536]) -> io::Result<usize>
+    ensures bound { IfOk result (λ count. count ≤ length input.new) }
+    ensures front { IfOk result (λ count. IfSome (R.remaining from.old) (λ bytes. take count input.new ≡ take 65536 bytes)) }
 {
-    let mut input = Vec::new(alloc);
-    from.take(MOST_BYTES as u64).read_to_end(&mut input)?;
-    // no reader gives more: this cuts nothing off, and says so
-    input.truncate(MOST_BYTES);
-    Ok(input)
+    let mut count = 0;
+    while count < input.len() {
+        let more = from.read(&mut input[count..])?;
+        if more == 0 {
+            return Ok(count);
+        }
+        count += more;
+    }
+    Ok(count)
+}
+
+// Plays one input and prints its lines, gathered in a buffer; where no memory is left for one, each piece is printed by itself.
+pub fn print_stream(rt: &(impl Print + AllocGlobal), step: u32, input: &[u8]) -> io::Result<()> {
+    match BufWriter::new(rt.alloc(), io::writer(rt)) {
+        Ok(mut out) => play(step, input, &mut out),
+        Err(_) => play(step, input, &mut io::writer(rt)),
+    }
 }
 
 // Plays one input in a venue that is opened at a step, and writes what is left in the writer's buffer.

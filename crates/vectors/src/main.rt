@@ -4,35 +4,37 @@
 
 mod questions;
 
-ghost use Rattle.std.specs.Prelude.{◌≤◌, IfOk, vec_len};
+ghost use Rattle.std.specs.Prelude.{IfOk};
+ghost use Rattle.std.specs.Counts.{IsPrefixLen};
 
 use prices::increments;
 use std::alloc::{AllocError, Global};
 use std::io::{BufWriter, Write};
-use std::rt::Files;
+use std::rt::{Env, Files};
 use std::{env, fs, io};
 
-// The first 65,536 bytes of a file; a missing one is empty.
-fn read_file(rt: &(impl Files + Eprint + AllocGlobal), name: &str) -> io::Result<Vec<u8>>
-    ensures { IfOk result (λ content. vec_len content ≤ 65536) }
+// The first 65,536 bytes of a file; one that can't be opened is empty. The result is how many came.
+fn read_file(rt: &(impl Files + Eprint), name: &str, content: &mut [u8; 65536]) -> io::Result<usize>
+    ensures { IfOk result (λ count. IsPrefixLen count content.new) }
 {
     match fs::open(rt, name) {
-        Ok(file) => console::read_input(rt.alloc(), file),
+        Ok(mut file) => console::read_input(&mut file, content),
         Err(e) => {
             eprintln!(rt; "{name}: {e}")?;
-            Ok(Vec::new(rt.alloc()))
+            Ok(0)
         }
     }
 }
 
 fn play_file(
-    rt: &(impl Files + Eprint + AllocGlobal),
+    rt: &(impl Files + Eprint),
     step: u32,
     name: &str,
     out: &mut impl Write,
 ) -> io::Result<()> {
-    let input = read_file(rt, name)?;
-    console::play(step, &input, out)
+    let mut input = [0u8; 65536];
+    let count = read_file(rt, name, &mut input)?;
+    console::play(step, &input[..count], out)
 }
 
 // Whether an argument is `50`.
@@ -52,11 +54,15 @@ fn name_stream(alloc: Global, name: &str) -> Result<String, AllocError> {
 }
 
 // The stream that the questions of a file are about.
-fn read_stream(rt: &(impl Files + Eprint + AllocGlobal), name: &str) -> io::Result<Vec<u8>>
-    ensures { IfOk result (λ content. vec_len content ≤ 65536) }
+fn read_stream(
+    rt: &(impl Files + Eprint + AllocGlobal),
+    name: &str,
+    content: &mut [u8; 65536],
+) -> io::Result<usize>
+    ensures { IfOk result (λ count. IsPrefixLen count content.new) }
 {
     let stream = name_stream(rt.alloc(), name)?;
-    read_file(rt, stream.as_str())
+    read_file(rt, stream.as_str(), content)
 }
 
 // The questions of a file.
@@ -66,9 +72,11 @@ fn ask_file(
     name: &str,
     out: &mut impl Write,
 ) -> io::Result<()> {
-    let text = read_file(rt, name)?;
-    let stream = read_stream(rt, name)?;
-    questions::ask(step, &stream, &text, out)
+    let mut text = [0u8; 65536];
+    let text_count = read_file(rt, name, &mut text)?;
+    let mut stream = [0u8; 65536];
+    let stream_count = read_stream(rt, name, &mut stream)?;
+    questions::ask(step, &stream[..stream_count], &text[..text_count], out)
 }
 
 // An argument: `50`, a stream to play at the step, or questions. The result is the step for the next one.
@@ -92,11 +100,21 @@ fn play_argument(
     Ok(step)
 }
 
-fn main(rt: HostRuntime) -> io::Result<()> {
-    let mut out = BufWriter::new(rt.alloc(), io::writer(&rt))?;
+fn play_arguments(
+    rt: &(impl Files + Eprint + AllocGlobal + Env),
+    out: &mut impl Write,
+) -> io::Result<()> {
     let mut step = increments::CENT;
-    for argument in env::args(&rt)?.skip(1) {
-        step = play_argument(&rt, step, argument.as_str(), &mut out)?;
+    for argument in env::args(rt)?.skip(1) {
+        step = play_argument(rt, step, argument.as_str(), out)?;
     }
     out.flush()
+}
+
+// The lines are gathered in a buffer; where no memory is left for one, each piece is printed by itself.
+fn main(rt: HostRuntime) -> io::Result<()> {
+    match BufWriter::new(rt.alloc(), io::writer(&rt)) {
+        Ok(mut out) => play_arguments(&rt, &mut out),
+        Err(_) => play_arguments(&rt, &mut io::writer(&rt)),
+    }
 }

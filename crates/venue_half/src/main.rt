@@ -3,10 +3,9 @@
 
 use prices::increments;
 use std::io;
-use std::io::BufWriter;
 
 fn main(rt: HostRuntime) -> io::Result<()> {
-    let input = console::read_input(rt.alloc(), rt.reader())?;
-    let mut out = BufWriter::new(rt.alloc(), io::writer(&rt))?;
-    console::play(increments::HALF_CENT, &input, &mut out)
+    let mut input = [0u8; 65536];
+    let count = console::read_input(&mut rt.reader(), &mut input)?;
+    console::print_stream(&rt, increments::HALF_CENT, &input[..count])
 }

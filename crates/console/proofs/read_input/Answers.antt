@@ -1,17 +1,68 @@
--- Where the reader's bytes are known: `take` let their front through, of which the truncation keeps all.
-use Rattle.std.proofs.Common.{◌≡◌, ℕ, List, [], ◌++◌, IfSome, take, arith, ap, Option, None, Some}
-use Rattle.std.specs.Option.{option_map}
+-- Where the reader's bytes are known: those that came are its first, all of them or as many as there was room for.
+use Rattle.std.proofs.Common.{◌≡◌, ℕ, ◌+◌, ◌-◌, ◌≤◌, List, [], ◌++◌, IfSome, Option, None, Some, rules, arith, length, take, slice_range, sym, ap, ◌∙◌, subst, le_refl, drop_at, length-take-le}
 use Rattle.std.proofs.lemmas.Grind.{common_steps}
+use Rattle.std.proofs.lemmas.Slice.{take-put_mid_below}
+use Rattle.std.specs.Io.KnownBytes.{Consumes, IsAtEnd}
+use Rattle.std.proofs.KnownBytes.{Consumes-trans}
+use borrow.Rule.Slice.PartMut.{put_mid, post_of, same_len_mid, mid_len}
+use lib.Seq.{take-add, take-append-le}
 use Rattle.console.proofs.read_input.Goals as goal
 
-take_again : (n : ℕ) (xs : List ℕ) → take n (take n xs) ≡ take n xs
-take_again n xs = grind (arith, common_steps)
+take_split : (a b : ℕ) (old new : List ℕ) → a ≤ b → take a new ≡ take a old → take a old ++ slice_range new a b ≡ take b new
+take_split a b old new h front =
+    let same : a + (b - a) ≡ b = omega arith in
+    ap (λ l. l ++ slice_range new a b) (sym front) ∙ sym (take-add a (b - a) new) ∙ ap (λ n. take n new) same
 
-front_kept : (n limit : ℕ) (known inner : Option (List ℕ)) (start read kept : List ℕ) → inner ≡ known → limit ≡ n → start ≡ [] → IfSome (option_map (take limit) inner) (λ xs. read ≡ start ++ xs) → kept ≡ take n read → IfSome known (λ bytes. kept ≡ take n bytes)
-front_kept n limit None inner start read kept same at empty h e = tt
-front_kept n limit (Some bytes) None start read kept same at empty h e = grind (arith, same)
-front_kept n limit (Some bytes) (Some others) start read kept same at empty h e = grind (arith, common_steps, take_again, same, at, empty, h, e)
+slice_range-put_mid : (a k n : ℕ) (xs ys : List ℕ) → a ≤ length xs → n ≤ length ys → slice_range (put_mid a k xs ys) a (a + n) ≡ take n ys
+slice_range-put_mid a k n xs ys within fits =
+    let same : (a + n) - a ≡ n = omega arith in
+    let after = post_of a k xs in
+    ap (take ((a + n) - a)) (drop_at (take a xs) (ys ++ after) a (length-take-le a xs within)) ∙ ap (λ m. take m (ys ++ after)) same ∙ take-append-le n ys after fits
+
+-- a read gives nothing and nothing is left, so all came
+all_came : (old mid new : Option (List ℕ)) (came none : List ℕ) (room : ℕ) → Consumes old mid came → Consumes mid new none → none ≡ [] → IsAtEnd new → length came ≤ room → IfSome old (λ bytes. came ≡ take room bytes)
+all_came None mid new came none room c d e f h = tt
+all_came (Some xs) None new came none room c d e f h = absurd c
+all_came (Some xs) (Some ys) None came none room c d e f h = absurd d
+all_came (Some xs) (Some ys) (Some zs) came none room c d e f h = grind (arith, common_steps, c, d, e, f, h)
+
+-- no room is left, so what came is the front
+front_came : (old new : Option (List ℕ)) (room : ℕ) (came : List ℕ) → Consumes old new came → length came ≡ room → IfSome old (λ bytes. came ≡ take room bytes)
+front_came None new room came c h = tt
+front_came (Some xs) None room came c h = absurd c
+front_came (Some xs) (Some ys) room came c h = grind (arith, common_steps, c, h)
+
+pub loop-count-init : goal.loop-count-init
+loop-count-init g c = search rules
+
+pub loop-count-preserved : goal.loop-count-preserved
+loop-count-preserved g c =
+    let from = c.loop-count.count in
+    let room = 65536 - from in
+    let within = c.loop-count.invariant.1 in
+    let more = c.in_ok-more.more in
+    let part = slice_range-put_mid from room more c.loop-count.input c.read.new.buf within c.in_ok-more.ensures.bound.0 in
+    let joined = take_split from (from + more) c.loop-count.input (put_mid from room c.loop-count.input c.read.new.buf) (omega arith) (take-put_mid_below _ _ _ _ _ (le_refl _) within) in
+    let most : c.loop-count.count ≤ 65536 = omega (arith, within, c.loop-count.invariant.0) in
+    let as_many : length c.read.new.buf ≡ 65536 - from = c.read.auto.buf ∙ mid_len from 65536 c.loop-count.input (omega (arith, c.loop-count.invariant.0)) in
+    let same : length (put_mid from room c.loop-count.input c.read.new.buf) ≡ 65536 = same_len_mid from room c.loop-count.input c.read.new.buf c.read.auto.buf ∙ c.loop-count.invariant.0 in
+    (same, omega (arith, same, c.in_ok-more.ensures.bound.0, most, as_many), subst (Consumes _ _) (ap (λ l. take from c.loop-count.input ++ l) (sym part) ∙ joined) (Consumes-trans _ _ _ _ _ c.loop-count.invariant.2 c.in_ok-more.ensures.bytes.0))
+
+pub returns-then-more-eq0-clause-front : goal.returns-then-more-eq0-clause-front
+returns-then-more-eq0-clause-front g c =
+    let from = c.loop-count.count in
+    let within = c.loop-count.invariant.1 in
+    let room : length (take from c.loop-count.input) ≤ 65536 = omega (arith, length-take-le from c.loop-count.input within, within, c.loop-count.invariant.0) in
+    let empty : take c.in_ok-more.more c.read.new.buf ≡ [] = ap (λ n. take n c.read.new.buf) c.if-more-eq0.true in
+    let ends : IsAtEnd (g.R.Read.remaining c.read.new.self) = c.in_ok-more.ensures.bytes.1 c.if-more-eq0.true (omega (arith, c.loop-count-test.true, c.read.auto.buf)) in
+    subst (λ came. IfSome (g.R.Read.remaining c.args.from.now) (λ bytes. came ≡ take 65536 bytes)) (sym (take-put_mid_below _ _ _ _ _ (le_refl _) within))
+    (all_came _ _ _ _ _ _ c.loop-count.invariant.2 c.in_ok-more.ensures.bytes.0 empty ends room)
+
+pub returns-clause-bound : goal.returns-clause-bound
+returns-clause-bound g c = c.loop-count.invariant.1
 
 pub returns-clause-front : goal.returns-clause-front
 returns-clause-front g c =
-    front_kept 65536 _ _ _ _ _ _ (ap g.R.Read.remaining c.take.ensures.inner) c.take.ensures.limit c.new-input.ensures.items c.in_ok-read_to_end.ensures.bytes c.truncate.ensures.items
+    let within = c.loop-count.invariant.1 in
+    let full : c.loop-count.count ≡ 65536 = omega (arith, c.loop-count-test.false, within, c.loop-count.invariant.0) in
+    front_came _ _ _ _ c.loop-count.invariant.2 (length-take-le c.loop-count.count c.loop-count.input within ∙ full)
