@@ -4,7 +4,8 @@
 
 mod line;
 
-ghost use Rattle.std.specs.Prelude.{◌≡◌, ◌≤◌, IfOk, IfSome, length, take};
+ghost use Rattle.std.specs.Prelude.{◌≡◌, IfOk, IfSome, length, take};
+ghost use Rattle.std.specs.Counts.{IsPrefixLen};
 
 use days::{Stop, play};
 use engine::{OpenAnswer, open, refusals};
@@ -12,10 +13,10 @@ use records::{FieldRead, record};
 use std::io;
 use std::io::{BufWriter, Read, Write};
 
-// The first 65,536 bytes of a reader, or all where it has fewer: no program plays more of a stream. The result is how many came.
-pub fn read_input<R: Read>(from: &mut R, input: &mut [u8; 65536]) -> io::Result<usize>
-    ensures bound { IfOk result (λ count. count ≤ length input.new) }
-    ensures front { IfOk result (λ count. IfSome (R.remaining from.old) (λ bytes. take count input.new ≡ take 65536 bytes)) }
+// Fills a buffer from a reader, or up to the reader's end where it has fewer bytes. The result is how many came.
+pub fn read_input<R: Read>(from: &mut R, input: &mut [u8]) -> io::Result<usize>
+    ensures bound { IfOk result (λ count. IsPrefixLen count input.new) }
+    ensures front { IfOk result (λ count. IfSome (R.remaining from.old) (λ bytes. take count input.new ≡ take (length input.old) bytes)) }
 {
     let mut count = 0;
     while count < input.len() {

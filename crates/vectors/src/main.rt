@@ -13,8 +13,8 @@ use std::io::{BufWriter, Write};
 use std::rt::{Env, Files};
 use std::{env, fs, io};
 
-// The first 65,536 bytes of a file; one that can't be opened is empty. The result is how many came.
-fn read_file(rt: &(impl Files + Eprint), name: &str, content: &mut [u8; 65536]) -> io::Result<usize>
+// The first bytes of a file, as many as there is room for; one that can't be opened is empty. The result is how many came.
+fn read_file(rt: &(impl Files + Eprint), name: &str, content: &mut [u8]) -> io::Result<usize>
     ensures { IfOk result (λ count. IsPrefixLen count content.new) }
 {
     match fs::open(rt, name) {
@@ -57,7 +57,7 @@ fn name_stream(alloc: Global, name: &str) -> Result<String, AllocError> {
 fn read_stream(
     rt: &(impl Files + Eprint + AllocGlobal),
     name: &str,
-    content: &mut [u8; 65536],
+    content: &mut [u8],
 ) -> io::Result<usize>
     ensures { IfOk result (λ count. IsPrefixLen count content.new) }
 {

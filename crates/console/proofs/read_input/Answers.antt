@@ -4,7 +4,7 @@ use Rattle.std.proofs.lemmas.Grind.{common_steps}
 use Rattle.std.proofs.lemmas.Slice.{take-put_mid_below}
 use Rattle.std.specs.Io.KnownBytes.{Consumes, IsAtEnd}
 use Rattle.std.proofs.KnownBytes.{Consumes-trans}
-use borrow.Rule.Slice.PartMut.{put_mid, post_of, same_len_mid, mid_len}
+use borrow.Rule.Slice.PartMut.{put_mid, post_of}
 use lib.Seq.{take-add, take-append-le}
 use Rattle.console.proofs.read_input.Goals as goal
 
@@ -38,31 +38,28 @@ loop-count-init g c = search rules
 pub loop-count-preserved : goal.loop-count-preserved
 loop-count-preserved g c =
     let from = c.loop-count.count in
-    let room = 65536 - from in
+    let room = length c.loop-count.input - from in
     let within = c.loop-count.invariant.1 in
     let more = c.in_ok-more.more in
     let part = slice_range-put_mid from room more c.loop-count.input c.read.new.buf within c.in_ok-more.ensures.bound.0 in
     let joined = take_split from (from + more) c.loop-count.input (put_mid from room c.loop-count.input c.read.new.buf) (omega arith) (take-put_mid_below _ _ _ _ _ (le_refl _) within) in
-    let most : c.loop-count.count ≤ 65536 = omega (arith, within, c.loop-count.invariant.0) in
-    let as_many : length c.read.new.buf ≡ 65536 - from = c.read.auto.buf ∙ mid_len from 65536 c.loop-count.input (omega (arith, c.loop-count.invariant.0)) in
-    let same : length (put_mid from room c.loop-count.input c.read.new.buf) ≡ 65536 = same_len_mid from room c.loop-count.input c.read.new.buf c.read.auto.buf ∙ c.loop-count.invariant.0 in
-    (same, omega (arith, same, c.in_ok-more.ensures.bound.0, most, as_many), subst (Consumes _ _) (ap (λ l. take from c.loop-count.input ++ l) (sym part) ∙ joined) (Consumes-trans _ _ _ _ _ c.loop-count.invariant.2 c.in_ok-more.ensures.bytes.0))
+    (search rules, search rules, subst (Consumes _ _) (ap (λ l. take from c.loop-count.input ++ l) (sym part) ∙ joined) (Consumes-trans _ _ _ _ _ c.loop-count.invariant.2 c.in_ok-more.ensures.bytes.0))
 
 pub returns-then-more-eq0-clause-front : goal.returns-then-more-eq0-clause-front
 returns-then-more-eq0-clause-front g c =
     let from = c.loop-count.count in
     let within = c.loop-count.invariant.1 in
-    let room : length (take from c.loop-count.input) ≤ 65536 = omega (arith, length-take-le from c.loop-count.input within, within, c.loop-count.invariant.0) in
+    let room : length (take from c.loop-count.input) ≤ length c.args.input.now = omega (arith, length-take-le from c.loop-count.input within, within, c.loop-count.invariant.0) in
     let empty : take c.in_ok-more.more c.read.new.buf ≡ [] = ap (λ n. take n c.read.new.buf) c.if-more-eq0.true in
     let ends : IsAtEnd (g.R.Read.remaining c.read.new.self) = c.in_ok-more.ensures.bytes.1 c.if-more-eq0.true (omega (arith, c.loop-count-test.true, c.read.auto.buf)) in
-    subst (λ came. IfSome (g.R.Read.remaining c.args.from.now) (λ bytes. came ≡ take 65536 bytes)) (sym (take-put_mid_below _ _ _ _ _ (le_refl _) within))
+    subst (λ came. IfSome (g.R.Read.remaining c.args.from.now) (λ bytes. came ≡ take (length c.args.input.now) bytes)) (sym (take-put_mid_below _ _ _ _ _ (le_refl _) within))
     (all_came _ _ _ _ _ _ c.loop-count.invariant.2 c.in_ok-more.ensures.bytes.0 empty ends room)
 
 pub returns-clause-bound : goal.returns-clause-bound
-returns-clause-bound g c = c.loop-count.invariant.1
+returns-clause-bound g c = (c.loop-count.invariant.1, sym (length-take-le c.loop-count.count c.loop-count.input c.loop-count.invariant.1))
 
 pub returns-clause-front : goal.returns-clause-front
 returns-clause-front g c =
     let within = c.loop-count.invariant.1 in
-    let full : c.loop-count.count ≡ 65536 = omega (arith, c.loop-count-test.false, within, c.loop-count.invariant.0) in
+    let full : c.loop-count.count ≡ length c.args.input.now = omega (arith, c.loop-count-test.false, within, c.loop-count.invariant.0) in
     front_came _ _ _ _ c.loop-count.invariant.2 (length-take-le c.loop-count.count c.loop-count.input within ∙ full)

@@ -5,7 +5,7 @@ use Rattle.console.proofs.read_input.Given as goal
 
 abbrev pub invariant-loop-count : goal.invariant-loop-count
 invariant-loop-count g l =
-    (length l.input ≡ 65536) × (l.count ≤ length l.input) × Consumes (g.R.Read.remaining l.initial.from) (g.R.Read.remaining l.from) (take l.count l.input)
+    (length l.input ≡ length l.initial.input) × (l.count ≤ length l.input) × Consumes (g.R.Read.remaining l.initial.from) (g.R.Read.remaining l.from) (take l.count l.input)
 
 abbrev pub decreases-loop-count : goal.decreases-loop-count
-decreases-loop-count g l = 65536 - l.count
+decreases-loop-count g l = length l.initial.input - l.count
