@@ -4,7 +4,8 @@
 
 mod line;
 
-ghost use Rattle.std.specs.Prelude.{◌≡◌, IfOk, IfSome, length, take};
+ghost use Rattle.std.specs.Prelude.{◌≡◌, ℕ, IfOk, IfSome, MatchResult, length, take};
+ghost use Rattle.std.specs.Io.KnownBytes.{Consumes};
 ghost use Rattle.std.specs.Counts.{IsPrefixLen};
 
 use days::{Stop, play};
@@ -17,6 +18,7 @@ use std::io::{BufWriter, Read, Write};
 pub fn read_input<R: Read>(from: &mut R, input: &mut [u8]) -> io::Result<usize>
     ensures bound { IfOk result (λ count. IsPrefixLen count input.new) }
     ensures front { IfOk result (λ count. IfSome (R.remaining from.old) (λ bytes. take count input.new ≡ take (length input.old) bytes)) }
+    ensures none_lost { MatchResult result (λ count. Consumes (R.remaining from.old) (R.remaining from.new) (take count input.new)) (λ _. (count : ℕ) × IsPrefixLen count input.new × Consumes (R.remaining from.old) (R.remaining from.new) (take count input.new)) }
 {
     let mut count = 0;
     while count < input.len() {
