@@ -14,7 +14,8 @@ use records::{FieldRead, record};
 use std::io;
 use std::io::{BufWriter, Read, Write};
 
-// Fills a buffer from a reader, or up to the reader's end where it has fewer bytes. The result is how many came.
+// Fills a buffer from a reader, or up to the reader's end where it has fewer bytes. The result is how many came; after a read that fails, those before it
+// stand in the buffer.
 pub fn read_input<R: Read>(from: &mut R, input: &mut [u8]) -> io::Result<usize>
     ensures bound { IfOk result (λ count. IsPrefixLen count input.new) }
     ensures front { IfOk result (λ count. IfSome (R.remaining from.old) (λ bytes. take count input.new ≡ take (length input.old) bytes)) }
