@@ -1,5 +1,5 @@
 -- Where the reader's bytes are known: those that came are its first, all of them or as many as there was room for.
-use Rattle.std.proofs.Common.{◌≡◌, ℕ, ◌+◌, ◌-◌, ◌≤◌, List, [], ◌++◌, IfSome, Option, None, Some, rules, arith, length, take, slice_range, sym, ap, ◌∙◌, subst, le_refl, drop_at, length-take-le}
+use Rattle.std.proofs.Common.{◌≡◌, ℕ, ◌+◌, ◌-◌, ◌≤◌, List, [], ◌++◌, IfSome, Option, None, Some, rules, arith, length, take, drop, sym, ap, ◌∙◌, subst, le_refl, drop_at, length-take-le}
 use Rattle.std.proofs.lemmas.Grind.{common_steps}
 use Rattle.std.proofs.lemmas.Slice.{take-put_mid_below}
 use Rattle.std.specs.Io.KnownBytes.{Consumes, IsAtEnd}
@@ -8,16 +8,11 @@ use borrow.Rule.Slice.PartMut.{put_mid, post_of}
 use lib.Seq.{take-add, take-append-le}
 use Rattle.console.proofs.read_input.Goals as goal
 
-take_split : (a b : ℕ) (old new : List ℕ) → a ≤ b → take a new ≡ take a old → take a old ++ slice_range new a b ≡ take b new
-take_split a b old new h front =
-    let same : a + (b - a) ≡ b = omega arith in
-    ap (λ l. l ++ slice_range new a b) (sym front) ∙ sym (take-add a (b - a) new) ∙ ap (λ n. take n new) same
-
-slice_range-put_mid : (a k n : ℕ) (xs ys : List ℕ) → a ≤ length xs → n ≤ length ys → slice_range (put_mid a k xs ys) a (a + n) ≡ take n ys
-slice_range-put_mid a k n xs ys within fits =
-    let same : (a + n) - a ≡ n = omega arith in
-    let after = post_of a k xs in
-    ap (take ((a + n) - a)) (drop_at (take a xs) (ys ++ after) a (length-take-le a xs within)) ∙ ap (λ m. take m (ys ++ after)) same ∙ take-append-le n ys after fits
+-- what was read stands behind what had come
+came_more : (a k n : ℕ) (xs ys : List ℕ) → a ≤ length xs → n ≤ length ys → take a xs ++ take n ys ≡ take (a + n) (put_mid a k xs ys)
+came_more a k n xs ys within fits =
+    let behind : drop a (put_mid a k xs ys) ≡ ys ++ post_of a k xs = drop_at (take a xs) (ys ++ post_of a k xs) a (length-take-le a xs within) in
+    sym (take-add a n (put_mid a k xs ys) ∙ ap (λ l. l ++ take n (drop a (put_mid a k xs ys))) (take-put_mid_below a k xs ys a (le_refl a) within) ∙ ap (λ l. take a xs ++ l) (ap (take n) behind ∙ take-append-le n ys (post_of a k xs) fits))
 
 -- a read gives nothing and nothing is left, so all came
 all_came : (old mid new : Option (List ℕ)) (came none : List ℕ) (room : ℕ) → Consumes old mid came → Consumes mid new none → none ≡ [] → IsAtEnd new → length came ≤ room → IfSome old (λ bytes. came ≡ take room bytes)
@@ -41,9 +36,7 @@ loop-count-preserved g c =
     let room = length c.loop-count.input - from in
     let within = c.loop-count.invariant.1 in
     let more = c.in_ok-more.more in
-    let part = slice_range-put_mid from room more c.loop-count.input c.read.new.buf within c.in_ok-more.ensures.bound.0 in
-    let joined = take_split from (from + more) c.loop-count.input (put_mid from room c.loop-count.input c.read.new.buf) (omega arith) (take-put_mid_below _ _ _ _ _ (le_refl _) within) in
-    (search rules, search rules, subst (Consumes _ _) (ap (λ l. take from c.loop-count.input ++ l) (sym part) ∙ joined) (Consumes-trans _ _ _ _ _ c.loop-count.invariant.2 c.in_ok-more.ensures.bytes.0))
+    (search rules, search rules, subst (Consumes _ _) (came_more from room more _ _ within c.in_ok-more.ensures.bound.0) (Consumes-trans _ _ _ _ _ c.loop-count.invariant.2 c.in_ok-more.ensures.bytes.0))
 
 pub returns-then-more-eq0-clause-front : goal.returns-then-more-eq0-clause-front
 returns-then-more-eq0-clause-front g c =
