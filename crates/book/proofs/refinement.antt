@@ -1,6 +1,7 @@
 -- Laws by which the code does what the rules say.
 pub mod TabulateLaws
 pub mod WordLaws
+pub mod PlaceLaws
 pub mod WordStepLaws
 pub mod HoldsLaws
 pub mod PositionLaws

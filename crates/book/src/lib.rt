@@ -1,6 +1,8 @@
 // Orders, their priority and matching: the third layer.
 #![tactic(auto)]
 
+ghost use Rattle.book.specs.steps.BookSteps.{Book};
+
 pub mod depth;
 pub mod fill;
 pub mod place;
@@ -13,7 +15,8 @@ pub mod words;
 
 // An order as document 01, "Orders", and document 02, No. 1 and No. 7, have it: the fields of its entry, then what the venue adds, then the owner. `limit`
 // is what counts as the limit of the entry, `price` the present price, and `shares` those left.
-#[derive(Clone, Copy)]
+// no enums for mark, show, life and slide: lent words may hold any number there, and `sound_order` (refusal 16) judges orders that hold them
+#[derive(Clone, Copy, Debug, PartialEq, Eq)]
 pub struct Order {
     pub id: u32,
     // 0 buy, 1 long sell, 2 short, 3 short exempt
@@ -44,8 +47,9 @@ pub struct Order {
 
 // An order record of the run that a host lends for copy out and depth: the same fields, one 32-bit word each, so any bytes are a record. Copy out
 // writes a flag as 0 or 1.
+// no enums: the C interface (include/venue.h), and a run may hold any numbers
 #[repr(C)]
-#[derive(Clone, Copy)]
+#[derive(Clone, Copy, Debug, PartialEq, Eq)]
 pub struct OrderRecord {
     pub id: u32,
     pub mark: u32,
@@ -64,30 +68,28 @@ pub struct OrderRecord {
     pub owner: u32,
 }
 
-// Where an order stands in the book, counted from 0.
+// The words of a book, lent to be read: the header, the orders and behind them the kept prices.
 #[derive(Clone, Copy)]
-pub enum Position {
-    At(usize),
-    Absent,
+pub struct BookView<'a> {
+    words: &'a [u32],
+    ghost laid_out: { Book words.now },
 }
 
 // Whether an order would fill in full, and how many orders were read to tell.
-#[derive(Clone, Copy)]
+// no enum: `read` means the same beside a yes and a no
+#[derive(Clone, Copy, Debug, PartialEq, Eq)]
 pub struct FrontRead {
     pub fills: bool,
     pub read: usize,
 }
 
 // The side of the book that depth is asked for.
-#[derive(Clone, Copy)]
+#[derive(Clone, Copy, Debug, PartialEq, Eq, Hash)]
 pub enum Side {
     Buy,
     Sell,
 }
 
-// What depth answers: the shares, or that the run has over 256 records.
-#[derive(Clone, Copy)]
-pub enum DepthAnswer {
-    Shares(u64),
-    TooMany,
-}
+// Why a run of records has no depth: it has over 256 of them.
+#[derive(Clone, Copy, Debug, PartialEq, Eq, Hash)]
+pub struct TooManyRecords;

@@ -1,13 +1,11 @@
 // The best order that a working order reaches, by price, then displayed before not, then lower stamp; and whether two orders are of the same owner.
-ghost use Rattle.std.specs.Prelude.{◌≡◌, ◌+◌, ◌≤◌, ◌<◌, ltb, eqb, length};
+ghost use Rattle.std.specs.Prelude.{◌≡◌, ◌+◌, ◌≤◌, ◌<◌, ltb, eqb, length, Some};
 ghost use Rattle.numbers.specs.Tests.{pick};
 ghost use Rattle.book.specs.rules.Matching;
 ghost use Rattle.book.specs.rules.Words.{resting};
-ghost use Rattle.book.specs.steps.BookSteps.{Book};
-ghost use Rattle.book.specs.declared.Position.TheVariants.{At};
 ghost use Rattle.book.specs.steps.Positions.{IsAt, Found, FirstReached, considered};
 
-use crate::{Order, Position, words};
+use crate::{BookView, Order};
 
 // What puts a price out of reach of every other.
 const OUT_OF_REACH: u64 = 4_294_967_296;
@@ -44,78 +42,59 @@ fn better_price(mark: u32, p: u32, q: u32) -> bool
 }
 
 // Whether a is better than b for the working order o.
+#[tactic(auto, using(std::proofs::lemmas::Grind::common_steps), unfolding(crate::specs::rules::Matching::better))]
 fn better(o: Order, a: Order, b: Order) -> bool
     ensures { result ≡ Matching.better o a b }
 {
     if better_price(o.mark, a.price, b.price) {
         return true;
     }
-    if a.price == b.price {
-        if b.show < a.show {
-            return true;
-        }
-        if a.show == b.show {
-            return a.stamp < b.stamp;
-        }
-        return false;
-    }
-    false
+    a.price == b.price && (b.show, a.stamp) < (a.show, b.stamp)
 }
 
-// The position of the first order that o reaches, or the number of orders.
-fn first_reached(w: &[u32], o: Order) -> usize
-    requires { Book w.now }
-    ensures { FirstReached o (resting w.now) result }
-{
-    let n = words::count(w);
-    let mut i = 0;
-    while i < n {
-        if reaches(o, words::load(w, i)) {
-            return i;
+impl<'a> BookView<'a> {
+    // The position of the first order that o reaches.
+    fn first_reached(self, o: Order) -> Option<usize>
+        ensures { FirstReached o (resting self.entry.words.now) result }
+    {
+        for i in 0..self.count() {
+            if reaches(o, self.order(i)) {
+                return Some(i);
+            }
         }
-        i += 1;
+        None
     }
-    n
-}
 
-// The better of the best so far, which is at position b, and the order at position i.
-fn consider(w: &[u32], o: Order, b: usize, i: usize) -> usize
-    requires { Book w.now × (b < i) × (i < length (resting w.now)) }
-    ensures { IsAt (resting w.now) (At result) (i + 1) (considered o (resting w.now) (At b) i) }
-{
-    let x = words::load(w, i);
-    if reaches(o, x) {
-        if better(o, x, words::load(w, b)) {
-            return i;
+    // The better of the best so far, which is at position best, and the order at position i.
+    fn consider(self, o: Order, best: usize, i: usize) -> usize
+        requires { (best < i) × (i < length (resting self.words.now)) }
+        ensures { IsAt (resting self.entry.words.now) (Some result) (i + 1) (considered o (resting self.entry.words.now) (Some best) i) }
+    {
+        let x = self.order(i);
+        if reaches(o, x) {
+            if better(o, x, self.order(best)) {
+                return i;
+            }
         }
+        best
     }
-    b
-}
 
-// The best order that o reaches.
-pub fn best(w: &[u32], o: Order) -> Position
-    requires { Book w.now }
-    ensures { Found (resting w.now) result (Matching.best o (resting w.now)) }
-{
-    let n = words::count(w);
-    let mut b = first_reached(w, o);
-    if b >= n {
-        return Position::Absent;
+    // The best order that o reaches.
+    pub fn best(self, o: Order) -> Option<usize>
+        ensures { Found (resting self.entry.words.now) result (Matching.best o (resting self.entry.words.now)) }
+    {
+        let mut best = self.first_reached(o)?;
+        for i in best + 1..self.count() {
+            best = self.consider(o, best, i);
+        }
+        Some(best)
     }
-    let mut i = b + 1;
-    while i < n {
-        b = consider(w, o, b, i);
-        i += 1;
-    }
-    Position::At(b)
 }
 
 // Whether both orders are of the same owner above 0.
+#[tactic(auto, using(std::proofs::lemmas::Grind::common_steps), unfolding(crate::specs::rules::Matching::same_owner))]
 pub fn same_owner(o: Order, x: Order) -> bool
     ensures { result ≡ Matching.same_owner o x }
 {
-    if o.owner > 0 {
-        return o.owner == x.owner;
-    }
-    false
+    o.owner > 0 && o.owner == x.owner
 }

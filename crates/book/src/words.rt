@@ -1,10 +1,11 @@
 // The layout of a book in lent words: its header words, and its orders one at a time by value.
 ghost use Rattle.std.specs.Prelude.{◌≡◌, ◌+◌, ◌<◌, ◌≤◌, [], length, get_or};
-ghost use Rattle.book.specs.rules.Words.{header_words, order_width, venue_words, layout_word, flag_word, empty_order, place_from, word, resting};
+ghost use Rattle.book.specs.rules.Words.{header_words, book_words, order_width, venue_words, layout_word, empty_order, place_from, order_of, resting};
+ghost use Rattle.numbers.specs.Lists.{tabulate};
 ghost use Rattle.book.specs.steps.BookSteps.{Book, Holds, HeaderSet};
-ghost use Rattle.book.specs.steps.WordSteps.{Row, Copied, Stored};
+ghost use Rattle.book.specs.steps.WordSteps.{place_in, Row, Stored};
 
-use crate::Order;
+use crate::{BookView, Order};
 use prices::pause;
 
 // The words of the header and of an order, the places for orders, the words of the book's part, and those of a venue, with the kept prices.
@@ -54,27 +55,47 @@ pub(crate) const MARKET: usize = 13;
 
 pub(crate) const OWNER: usize = 14;
 
-pub(crate) fn wide(x: u32) -> usize
-    ensures { result ≡ x }
-{
-    x as usize
+impl<'a> BookView<'a> {
+    // Words that are a book.
+    pub fn new(words: &'a [u32]) -> BookView<'a>
+        requires { Book words.now }
+        ensures { result.words.now ≡ words.now }
+    {
+        BookView { words }
+    }
+
+    // All words, those of the kept prices and those behind them too.
+    pub fn words(self) -> &'a [u32]
+        ensures { result.now ≡ self.entry.words.now }
+    {
+        self.words
+    }
+
+    // The number of orders.
+    pub fn count(self) -> usize
+        ensures { result ≡ length (resting self.entry.words.now) }
+    {
+        self.words[0] as usize
+    }
+
+    // The header word at an index.
+    pub fn header_word(self, at: usize) -> u32
+        requires { at < header_words }
+        ensures { result ≡ get_or self.entry.words.now at 0 }
+    {
+        self.words[at]
+    }
+
+    // The order at position i.
+    pub fn order(self, i: usize) -> Order
+        requires { i < length (resting self.words.now) }
+        ensures { result ≡ get_or (resting self.entry.words.now) i empty_order }
+    {
+        Order::from(&places(self.words)[i])
+    }
 }
 
-// The number of orders.
-pub fn count(w: &[u32]) -> usize
-    requires { Book w.now }
-    ensures { result ≡ length (resting w.now) }
-{
-    wide(w[0])
-}
-
-pub fn header_word(w: &[u32], at: usize) -> u32
-    requires { Book w.now × (at < header_words) }
-    ensures { result ≡ get_or w.now at 0 }
-{
-    w[at]
-}
-
+// Sets a header word that is neither the count of the orders nor the number of the layout.
 pub fn set_header_word(w: &mut [u32], k: usize, x: u32)
     requires { Book w.old × (0 < k) × (k < layout_word) }
     ensures { HeaderSet w.old w.new k x }
@@ -90,6 +111,15 @@ pub fn clear(w: &mut [u32])
     w[0] = 0;
 }
 
+// The places for orders, each the words of one.
+pub(crate) fn places(w: &[u32]) -> &[[u32; WIDTH]]
+    requires { venue_words ≤ length w.now }
+    ensures places { result.now ≡ tabulate 256 (place_in w.now) }
+    ensures count { length result.now ≡ 256 }
+{
+    w[HEADER..BOOK].as_chunks().0
+}
+
 // The index of the first word of place i.
 pub(crate) fn first_word(i: usize) -> usize
     requires { i ≤ 256 }
@@ -98,92 +128,65 @@ pub(crate) fn first_word(i: usize) -> usize
     HEADER + i * WIDTH
 }
 
-// Word k of place i.
-pub(crate) fn word_at(w: &[u32], i: usize, k: usize) -> u32
-    requires { (venue_words ≤ length w.now) × (i < 256) × (k < order_width) }
-    ensures { result ≡ word w.now i k }
-{
-    w[HEADER + i * WIDTH + k]
-}
-
-// The order at position i.
-pub fn load(w: &[u32], i: usize) -> Order
-    requires { Book w.now × (i < length (resting w.now)) }
-    ensures { result ≡ get_or (resting w.now) i empty_order }
-{
-    let p = HEADER + i * WIDTH;
-    Order {
-        id: w[p],
-        mark: w[p + MARK],
-        limit: w[p + LIMIT],
-        shares: w[p + SHARES],
-        show: w[p + SHOW],
-        life: w[p + LIFE],
-        slide: w[p + SLIDE],
-        stamp: w[p + STAMP],
-        price: w[p + PRICE],
-        entry_bid: w[p + ENTRY_BID],
-        adjusted: w[p + ADJUSTED] == 1,
-        used: w[p + USED] == 1,
-        clear: w[p + CLEAR] == 1,
-        market: w[p + MARKET] == 1,
-        owner: w[p + OWNER],
-    }
-}
-
-pub(crate) fn flag_word(b: bool) -> u32
-    ensures { result ≡ flag_word b }
-{
-    if b {
-        return 1;
-    }
-    0
-}
-
-// The words of an order.
-fn row_of(o: Order) -> [u32; WIDTH]
-    ensures { Row result o }
-{
-    let a = flag_word(o.adjusted);
-    let u = flag_word(o.used);
-    let c = flag_word(o.clear);
-    let m = flag_word(o.market);
-    [
-        o.id,
-        o.mark,
-        o.limit,
-        o.shares,
-        o.show,
-        o.life,
-        o.slide,
-        o.stamp,
-        o.price,
-        o.entry_bid,
-        a,
-        u,
-        c,
-        m,
-        o.owner,
-    ]
-}
-
-// Copies the words of an order to w from an index on.
-fn copy_row(w: &mut [u32], at: usize, row: &[u32; WIDTH])
-    requires { at + order_width ≤ length w.old }
-    ensures { Copied w.old w.new at row.now order_width }
-{
-    let mut k = 0;
-    while k < WIDTH {
-        w[at + k] = row[k];
-        k += 1;
-    }
-}
-
 // Stores an order in place i, used or not.
 pub(crate) fn store(w: &mut [u32], i: usize, o: Order)
     requires { (venue_words ≤ length w.old) × (i < 256) }
     ensures { Stored w.old w.new i o }
 {
-    let row = row_of(o);
-    copy_row(w, HEADER + i * WIDTH, &row);
+    let from = first_word(i);
+    let place = <[u32; WIDTH]>::from(o);
+    // no copy_from_slice: the words then go by way of the stack, and an order that is put in behind all others takes 1.8 times as long
+    for (k, &x) in place.iter().enumerate() {
+        w[from + k] = x;
+    }
+}
+
+// Any words of a place are an order: a flag is set where its word is 1.
+impl From<&[u32; WIDTH]> for Order {
+    ghost from_gives = { λ place o. o ≡ order_of place.now };
+
+    fn from(place: &[u32; WIDTH]) -> Order {
+        Order {
+            id: place[ID],
+            mark: place[MARK],
+            limit: place[LIMIT],
+            shares: place[SHARES],
+            show: place[SHOW],
+            life: place[LIFE],
+            slide: place[SLIDE],
+            stamp: place[STAMP],
+            price: place[PRICE],
+            entry_bid: place[ENTRY_BID],
+            adjusted: place[ADJUSTED] == 1,
+            used: place[USED] == 1,
+            clear: place[CLEAR] == 1,
+            market: place[MARKET] == 1,
+            owner: place[OWNER],
+        }
+    }
+}
+
+// The words of an order.
+impl From<Order> for [u32; WIDTH] {
+    ghost from_gives = { λ o place. Row place o };
+
+    fn from(o: Order) -> [u32; WIDTH] {
+        [
+            o.id,
+            o.mark,
+            o.limit,
+            o.shares,
+            o.show,
+            o.life,
+            o.slide,
+            o.stamp,
+            o.price,
+            o.entry_bid,
+            u32::from(o.adjusted),
+            u32::from(o.used),
+            u32::from(o.clear),
+            u32::from(o.market),
+            o.owner,
+        ]
+    }
 }

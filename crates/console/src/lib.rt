@@ -9,8 +9,9 @@ ghost use Rattle.std.specs.Io.KnownBytes.{Consumes};
 ghost use Rattle.std.specs.Counts.{IsPrefixLen};
 
 use days::{Stop, play};
-use engine::{OpenAnswer, open, refusals};
-use records::{FieldRead, record};
+use engine::open;
+pub use line::put_refusal;
+use records::{FieldAt, record};
 use std::io;
 use std::io::{BufWriter, Read, Write};
 
@@ -22,6 +23,7 @@ pub fn read_input<R: Read>(from: &mut R, input: &mut [u8]) -> io::Result<usize>
     ensures none_lost { MatchResult result (λ count. Consumes (R.remaining from.old) (R.remaining from.new) (take count input.new)) (λ _. (count : ℕ) × IsPrefixLen count input.new × Consumes (R.remaining from.old) (R.remaining from.new) (take count input.new)) }
 {
     let mut count = 0;
+    // no iterator: each read says how many bytes came
     while count < input.len() {
         let more = from.read(&mut input[count..])?;
         if more == 0 {
@@ -30,6 +32,13 @@ pub fn read_input<R: Read>(from: &mut R, input: &mut [u8]) -> io::Result<usize>
         count += more;
     }
     Ok(count)
+}
+
+// Plays the first 65,536 bytes of standard input at a step, as programs `venue` and `venue-half` do.
+pub fn play_standard_input(rt: &(impl Input + Print + AllocGlobal), step: u32) -> io::Result<()> {
+    let mut input = [0u8; 65536];
+    let count = read_input(&mut rt.reader(), &mut input)?;
+    print_stream(rt, step, &input[..count])
 }
 
 // Plays one input and prints its lines, gathered in a buffer; where no memory is left for one, each piece is printed by itself.
@@ -49,27 +58,16 @@ pub fn play<W: Write>(step: u32, input: &[u8], out: &mut W) -> io::Result<()> {
 // "a close as one seven-bit number (9, 10 or 12 as in a record, then 3), then records"
 fn play_close<W: Write>(step: u32, input: &[u8], out: &mut W) -> io::Result<()> {
     match record::read_field(input, 0) {
-        FieldRead::Refused(refusal) => line::put_refusal(out, record::refusal_number(refusal)),
-        FieldRead::Field { value, end } => play_day(step, input, end, value, out),
+        Ok(close) => play_day(step, input, close, out),
+        Err(refusal) => put_refusal(out, u32::from(refusal)),
     }
 }
 
 // Opens the venue and plays the records behind the close.
-fn play_day<W: Write>(
-    step: u32,
-    input: &[u8],
-    from: usize,
-    close: u32,
-    out: &mut W,
-) -> io::Result<()> {
-    let opened = open::open(step, close);
-    let answer = opened.answer;
-    match answer {
-        OpenAnswer::NotOpened(refusal) => line::put_refusal(out, refusals::number_of(refusal)),
-        OpenAnswer::Fresh => {
-            let mut words = opened.words;
-            play_records(&mut words, input, from, out)
-        }
+fn play_day<W: Write>(step: u32, input: &[u8], close: FieldAt, out: &mut W) -> io::Result<()> {
+    match open::open(step, close.value) {
+        Ok(mut words) => play_records(&mut words, input, close.end, out),
+        Err(refusal) => put_refusal(out, u32::from(refusal)),
     }
 }
 
@@ -84,9 +82,10 @@ fn play_records<W: Write>(
     let mut reports = [0u8; 65536];
     let mut ends = [0u64; 4096];
     let mut next = from;
+    // no iterator: each call says how far it came
     while next < input.len() {
         let played = play::play(words, input, next, &mut reports, &mut ends);
-        line::put_reports(out, &reports, played.end)?;
+        line::put_reports(out, &reports[..played.end])?;
         if played.at <= next {
             return put_stop(out, played.stop);
         }
@@ -98,7 +97,7 @@ fn play_records<W: Write>(
 // The line of a record that can't be read. There is room for an event, so nothing else stops one from being played.
 fn put_stop<W: Write>(out: &mut W, stop: Stop) -> io::Result<()> {
     if let Stop::Unreadable(refusal) = stop {
-        return line::put_refusal(out, record::refusal_number(refusal));
+        return put_refusal(out, u32::from(refusal));
     }
     Ok(())
 }

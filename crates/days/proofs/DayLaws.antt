@@ -29,7 +29,7 @@ use Rattle.engine.proofs.refinement.RefuseLaws.{words_book}
 use Rattle.engine.proofs.refinement.OpeningLaws.{step_in_lem}
 use Rattle.engine.proofs.demand3.CallLaws.{Readable, step_readable, event_last_id, step_same, applied_elsewhere}
 use Rattle.records.specs.declared.ReadRefusal.{ReadRefusal}
-use Rattle.records.specs.RecordAnswers.{read_refusal_number}
+use Rattle.records.specs.ReadRefusals.{read_refusal_number}
 use Rattle.days.specs.declared.Played.{Played}
 use Rattle.days.specs.declared.Stop.{Stop}
 use Rattle.days.specs.declared.Stop.TheVariants.{AllPlayed, EndsFull, ReportsFull, Unreadable, VenueBroken}
@@ -218,7 +218,7 @@ module _ {w₀ records b₀ es₀ w b es : List ℕ} {from at end k : ℕ} (p : 
   unfolding played
   stops {s} {x} n e q =
       let f : played w₀ records from b₀ es₀ ≡ stopped (day_of w b es at end k) (outcome_of_stop s) = pick_yes (sound_words w₀) _ _ p.start ∙ e in
-      subst (λ (y : Played). DayPlayed w₀ records from b₀ es₀ y w b es) (sym q) (record { stops = rw f; events = rw f; at = rw f; end = rw f; broken = λ z. absurd (n z); done = record { venue = rw f; buffer = rw f; ends = rw f; same = p.same; refused = λ z. absurd (subst T z p.start); sound = λ t. p.sound; applied = λ t. rw f p.applied } })
+      subst (λ (y : Played). DayPlayed w₀ records from b₀ es₀ y w b es) (sym q) (record { stops = rw f; events = rw f; at = rw f; end = rw f; inside = p.inside; broken = λ z. absurd (n z); done = record { venue = rw f; buffer = rw f; ends = rw f; same = p.same; refused = λ z. absurd (subst T z p.start); sound = λ t. p.sound; applied = λ t. rw f p.applied } })
 
   pub stops_end : {x : Played} → length records ≤ at → x ≡ record { events = k; at = at; end = end; stop = AllPlayed } → DayPlayed w₀ records from b₀ es₀ x w b es
   stops_end l = stops (λ z. never (cc)) (p.remains ∙ play_end (length es - k) records (day_of w b es at end k) l)
@@ -253,4 +253,4 @@ module _ (w records : List ℕ) (from : ℕ) (b es : List ℕ) (f : sound_words 
 
   pub not_played : {x : Played} → x ≡ record { events = 0; at = from; end = 0; stop = VenueBroken } → DayPlayed w records from b es x w b es
   not_played {x} q =
-      subst (λ (y : Played). DayPlayed w records from b es y w b es) (sym q) (record { stops = rw broken_day; events = rw broken_day; at = rw broken_day; end = rw broken_day; broken = λ z. f; done = broken_done })
+      subst (λ (y : Played). DayPlayed w records from b es y w b es) (sym q) (record { stops = rw broken_day; events = rw broken_day; at = rw broken_day; end = rw broken_day; inside = omega arith; broken = λ z. f; done = broken_done })

@@ -12,7 +12,7 @@ use Rattle.engine.specs.rules.Answers.{count_of, buffer_after}
 use Rattle.engine.specs.rules.Layout.{venue_of, sound_words}
 use Rattle.engine.specs.claims.RoundTrips.{Word}
 use Rattle.engine.specs.claims.Calls.{SameSpare, Applied}
-use Rattle.records.specs.RecordAnswers.{read_refusal_number}
+use Rattle.records.specs.ReadRefusals.{read_refusal_number}
 use Rattle.days.specs.declared.Played.{Played}
 use Rattle.days.specs.declared.Stop.{Stop}
 use Rattle.days.specs.declared.Stop.TheVariants.{AllPlayed, EndsFull, ReportsFull, Unreadable, VenueBroken}
@@ -82,5 +82,6 @@ pub record DayPlayed (w records : List ℕ) (from : ℕ) (b es : List ℕ) (r : 
   pub events : r.events ≡ (played w records from b es).day.events
   pub at : r.at ≡ (played w records from b es).day.at
   pub end : r.end ≡ (played w records from b es).day.end
+  pub inside : r.end ≤ length b'
   pub broken : r.stop ≡ VenueBroken → sound_words w ≡ false
   pub done : DayDone w records from b es w' b' es'

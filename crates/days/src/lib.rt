@@ -6,7 +6,7 @@ pub mod play;
 use records::ReadRefusal;
 
 // Why playing stopped.
-#[derive(Clone, Copy)]
+#[derive(Clone, Copy, Debug, PartialEq, Eq)]
 pub enum Stop {
     // the records are at their end
     AllPlayed,
@@ -21,7 +21,7 @@ pub enum Stop {
 }
 
 // How far playing came: the events played, the offset reached in the records, the bytes written, and why it stopped.
-#[derive(Clone, Copy)]
+#[derive(Clone, Copy, Debug, PartialEq, Eq)]
 pub struct Played {
     pub events: usize,
     pub at: usize,

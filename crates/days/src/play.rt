@@ -2,6 +2,7 @@
 ghost use Rattle.std.specs.Prelude.{◌≡◌, [], ◌∷◌, ◌+◌, ◌≤◌, ◌<◌, T, length};
 ghost use Rattle.numbers.specs.SevenBit.{bytes_of_all, Put};
 ghost use Rattle.numbers.specs.Tests.{All};
+ghost use Rattle.engine.specs.rules.Answers.{refusal_number};
 ghost use Rattle.engine.specs.rules.Refusals.{least_buffer};
 ghost use Rattle.engine.specs.rules.Layout.{sound_words};
 ghost use Rattle.engine.specs.rules.Records.{record_numbers};
@@ -9,16 +10,17 @@ ghost use Rattle.engine.specs.claims.RoundTrips.{Word};
 ghost use Rattle.days.specs.DayCalls.{EventPlayed, DayPlayed};
 
 use crate::{Played, Stop};
-use engine::{Answer, Event, apply, refusals, refuse};
+use engine::{Event, Refusal, apply, refuse};
 use numbers::write;
-use records::{RecordRead, record};
+use records::{EventAt, record};
 
 // Writes the two numbers of a refusal: 0, and the paper's number.
-fn write_refusal(reports: &mut [u8], end: usize, number: u32) -> usize
-    requires { (number < 128) × (end + least_buffer ≤ length reports.old) }
-    ensures { Put (bytes_of_all (0 ∷ number ∷ [])) end reports.old result reports.new × (result ≤ length reports.old) }
+fn write_refusal(reports: &mut [u8], end: usize, refusal: Refusal) -> usize
+    requires { end + least_buffer ≤ length reports.old }
+    ensures { Put (bytes_of_all (0 ∷ refusal_number refusal ∷ [])) end reports.old result reports.new × (result ≤ length reports.old) }
 {
-    let numbers = [0, number as u64];
+    let number = u32::from(refusal);
+    let numbers = [0, u64::from(number)];
     write::put_numbers(reports, end, &numbers)
 }
 
@@ -28,20 +30,8 @@ fn play_event(words: &mut [u32], event: Event, reports: &mut [u8], end: usize) -
     ensures { EventPlayed words.old event end reports.old result words.new reports.new }
 {
     match apply::apply_sound(words, event, &mut reports[end..]) {
-        Answer::Accepted(count) => end + count,
-        Answer::Refused(refusal) => write_refusal(reports, end, refusals::number_of(refusal)),
-    }
-}
-
-// How far playing came; each way to stop says it so.
-fn how_far(events: usize, at: usize, end: usize, stop: Stop) -> Played
-    ensures { result ≡ record { events = events; at = at; end = end; stop = stop } }
-{
-    Played {
-        events,
-        at,
-        end,
-        stop,
+        Ok(count) => end + count,
+        Err(refusal) => write_refusal(reports, end, refusal),
     }
 }
 
@@ -56,29 +46,42 @@ fn play_sound(
     requires { T (sound_words words.old) }
     ensures { DayPlayed words.old records.now from reports.old ends.old result words.new reports.new ends.new }
 {
-    let mut at = from;
-    let mut end = 0;
-    let mut events = 0;
-    while at < records.len() {
-        if events >= ends.len() {
-            return how_far(events, at, end, Stop::EndsFull);
+    let mut played = Played {
+        events: 0,
+        at: from,
+        end: 0,
+        stop: Stop::AllPlayed,
+    };
+    // no iterator: each record says where the next one begins
+    while played.at < records.len() {
+        if played.events >= ends.len() {
+            return Played {
+                stop: Stop::EndsFull,
+                ..played
+            };
         }
-        if reports.len() - end < refuse::LEAST_BUFFER {
-            return how_far(events, at, end, Stop::ReportsFull);
+        if reports.len() - played.end < refuse::LEAST_BUFFER {
+            return Played {
+                stop: Stop::ReportsFull,
+                ..played
+            };
         }
-        match record::read_record(records, at) {
-            RecordRead::Refused(refusal) => {
-                return how_far(events, at, end, Stop::Unreadable(refusal));
+        match record::read_record(records, played.at) {
+            Err(refusal) => {
+                return Played {
+                    stop: Stop::Unreadable(refusal),
+                    ..played
+                };
             }
-            RecordRead::Record { event, end: next } => {
-                end = play_event(words, event, reports, end);
-                ends[events] = end as u64;
-                events += 1;
-                at = next;
+            Ok(EventAt { event, end: next }) => {
+                played.end = play_event(words, event, reports, played.end);
+                ends[played.events] = played.end as u64;
+                played.events += 1;
+                played.at = next;
             }
         }
     }
-    how_far(events, at, end, Stop::AllPlayed)
+    played
 }
 
 // Plays the records from an offset on. Words that are no sound venue record are refused, and nothing is changed.
@@ -92,7 +95,12 @@ pub fn play(
     ensures { DayPlayed words.old records.now from reports.old ends.old result words.new reports.new ends.new }
 {
     if !refuse::venue_sound(words) {
-        return how_far(0, from, 0, Stop::VenueBroken);
+        return Played {
+            events: 0,
+            at: from,
+            end: 0,
+            stop: Stop::VenueBroken,
+        };
     }
     play_sound(words, records, from, reports, ends)
 }

@@ -1,3 +1,4 @@
 -- What the inner steps of the engine need and leave.
+pub mod Lent
 pub mod Memory
 pub mod Steps

@@ -1,44 +1,42 @@
 // Copy out: the resting orders in a lent run of order records.
-ghost use Rattle.std.specs.Prelude.{◌≡◌, length};
+ghost use Rattle.std.specs.Prelude.{◌≡◌, map, length};
+ghost use Rattle.book.specs.rules.Words.{resting};
+ghost use Rattle.book.specs.rules.OrderRecords.{record_of};
 ghost use Rattle.engine.specs.rules.Copy.{copy_outcome, copied, outcome_of_copy};
-ghost use Rattle.engine.specs.steps.Steps.{filled_by};
 
-use crate::{CopyAnswer, refuse};
-use book::{OrderRecord, record, words};
+use crate::{CopyError, refuse};
+use book::{BookView, OrderRecord};
 
-fn copy_answer(w: &[u32], records: usize) -> CopyAnswer
+// How many records a run of a length is filled with: as many as orders rest.
+#[tactic(auto, using(std::proofs::lemmas::Grind::common_steps, crate::proofs::refinement::CopyLaws::sound_book_lem), unfolding(crate::specs::rules::Copy::copy_outcome, numbers::specs::Tests::pick))]
+fn copy_count(w: &[u32], records: usize) -> Result<usize, CopyError>
     ensures { outcome_of_copy result ≡ copy_outcome w.now records }
 {
     if !refuse::venue_sound(w) {
-        return CopyAnswer::VenueBroken;
+        return Err(CopyError::VenueBroken);
     }
-    let count = words::count(w);
+    let count = BookView::new(w).count();
     if count > records {
-        return CopyAnswer::RunTooShort;
+        return Err(CopyError::RunTooShort);
     }
-    CopyAnswer::Filled(count)
+    Ok(count)
 }
 
-fn filled(answer: CopyAnswer) -> usize
-    ensures { result ≡ filled_by (outcome_of_copy answer) }
+// Copies the resting orders to a run of as many records.
+fn copy_orders(book: BookView, run: &mut [OrderRecord])
+    requires { length run.old ≡ length (resting book.words.now) }
+    ensures { run.new ≡ map record_of (resting book.entry.words.now) }
 {
-    match answer {
-        CopyAnswer::Filled(count) => count,
-        CopyAnswer::RunTooShort => 0,
-        CopyAnswer::VenueBroken => 0,
+    for (i, record) in run.iter_mut().enumerate() {
+        *record = book.record_at(i);
     }
 }
 
-// Copies the resting orders to the front of a run: any words, any run. A refusal changes no record.
-pub fn copy_out(w: &[u32], run: &mut [OrderRecord]) -> CopyAnswer
+// Copies the resting orders to the front of a run: any words, any run. The answer is their count; a refusal changes no record.
+pub fn copy_out(w: &[u32], run: &mut [OrderRecord]) -> Result<usize, CopyError>
     ensures { (outcome_of_copy result ≡ copy_outcome w.now (length run.old)) × (run.new ≡ copied w.now run.old) }
 {
-    let answer = copy_answer(w, run.len());
-    let count = filled(answer);
-    let mut i = 0;
-    while i < count {
-        run[i] = record::record_at(w, i);
-        i += 1;
-    }
-    answer
+    let count = copy_count(w, run.len())?;
+    copy_orders(BookView::new(w), &mut run[..count]);
+    Ok(count)
 }

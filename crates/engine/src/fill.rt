@@ -3,13 +3,13 @@ ghost use Rattle.std.specs.Prelude.{◌≡◌, T};
 ghost use Rattle.engine.specs.rules.Layout.{venue_of, sound_words};
 ghost use Rattle.engine.specs.rules.Fill.{asked_order, would_fill_in, outcome_of_fill};
 
-use crate::{Entry, FillAnswer, MayRefuse, Refusal, header, refuse, working};
-use book::{Order, fill};
+use crate::{Entry, Refusal, header, refuse, working};
+use book::{BookView, FrontRead, Order};
 
 // The order that is asked about.
-fn asked_order(w: &[u32], mark: u32, price: u32, shares: u32) -> Order
-    requires { T (sound_words w.now) }
-    ensures { result ≡ asked_order (venue_of w.now).market mark price shares }
+fn asked_order(book: BookView, mark: u32, price: u32, shares: u32) -> Order
+    requires { T (sound_words book.words.now) }
+    ensures { result ≡ asked_order (venue_of book.entry.words.now).market mark price shares }
 {
     let e = Entry {
         id: 0,
@@ -20,21 +20,17 @@ fn asked_order(w: &[u32], mark: u32, price: u32, shares: u32) -> Order
         life: 0,
         slide: 0,
     };
-    working::order_of(header::market(w), 0, 0, e)
+    working::order_of(header::market(book), 0, 0, e)
 }
 
 // Whether an entry with a mark, a price and shares would fill in full now, and how many orders were read to tell: any words, any numbers.
-pub fn would_fill(words: &[u32], mark: u32, price: u32, shares: u32) -> FillAnswer
+pub fn would_fill(words: &[u32], mark: u32, price: u32, shares: u32) -> Result<FrontRead, Refusal>
     ensures { outcome_of_fill result ≡ would_fill_in words.now mark price shares }
 {
     if !refuse::venue_sound(words) {
-        return FillAnswer::Refused(Refusal::VenueBroken);
+        return Err(Refusal::VenueBroken);
     }
-    match refuse::asked_refusal(words, mark, price, shares) {
-        MayRefuse::Refuse(refusal) => FillAnswer::Refused(refusal),
-        MayRefuse::Allow => FillAnswer::Told(fill::read_front(
-            words,
-            asked_order(words, mark, price, shares),
-        )),
-    }
+    let book = BookView::new(words);
+    refuse::check_question(book, mark, price, shares)?;
+    Ok(book.read_front(asked_order(book, mark, price, shares)))
 }

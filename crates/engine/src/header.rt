@@ -2,14 +2,16 @@
 ghost use Rattle.std.specs.Prelude.{◌≡◌, ◌<◌, length};
 ghost use Rattle.prices.specs.KeptWords.{kept_in};
 ghost use Rattle.book.specs.rules.Words.{book_words};
-ghost use Rattle.book.specs.steps.BookSteps.{Book};
 ghost use Rattle.engine.specs.rules.Sound.{most_events};
-ghost use Rattle.engine.specs.steps.Memory.{Ordered, Becomes, in_market, finished};
+ghost use Rattle.engine.specs.steps.Memory.{KeepsOrdered, in_market, finished};
+ghost use Rattle.engine.specs.steps.Lent.{words_in, venue_in, SameLoans, Becomes};
 ghost use Rattle.engine.specs.rules.Venue.{with_kept};
 ghost use Rattle.engine.specs.rules.Layout.{venue_of};
 
 use crate::Market;
-use book::words;
+use crate::lent::LentVenue;
+use book::{BookView, words};
+use prices::pause::Kept;
 
 pub(crate) const CLOSE: usize = 1;
 
@@ -27,60 +29,65 @@ pub(crate) const STEP: usize = 7;
 
 pub(crate) const KEPT: usize = 8;
 
-pub(crate) fn market(w: &[u32]) -> Market
-    requires { Book w.now }
-    ensures { result ≡ (venue_of w.now).market }
+#[tactic(auto, using(std::proofs::lemmas::Grind::common_steps), unfolding(crate::specs::rules::Layout::venue_of))]
+pub(crate) fn market(book: BookView) -> Market
+    ensures { result ≡ (venue_of book.entry.words.now).market }
 {
     Market {
-        close: words::header_word(w, CLOSE),
-        phase: words::header_word(w, PHASE),
-        bid: words::header_word(w, BID),
-        step: words::header_word(w, STEP),
+        close: book.header_word(CLOSE),
+        phase: book.header_word(PHASE),
+        bid: book.header_word(BID),
+        step: book.header_word(STEP),
     }
 }
 
-// A market at the step of the words, which no event changes.
-pub(crate) fn set_market(w: &mut [u32], m: Market)
-    requires { Ordered w.old × (m.step ≡ (venue_of w.old).market.step) }
-    ensures { Becomes w.old w.new (in_market m (venue_of w.old)) }
+// The kept prices.
+#[tactic(auto, using(prices::proofs::KeptWordLaws::kept_length), unfolding(crate::specs::rules::Layout::venue_of))]
+pub(crate) fn kept(book: BookView) -> Kept
+    requires { KeepsOrdered book.words.now }
+    ensures { result ≡ (venue_of book.entry.words.now).kept }
 {
-    words::set_header_word(w, CLOSE, m.close);
-    words::set_header_word(w, PHASE, m.phase);
-    words::set_header_word(w, BID, m.bid);
+    Kept::new(book.words(), words::BOOK, book.header_word(KEPT))
 }
 
-// How many prices are kept.
-pub(crate) fn kept_count(w: &[u32]) -> usize
-    requires { Book w.now }
-    ensures { result ≡ length (venue_of w.now).kept }
-{
-    words::header_word(w, KEPT) as usize
-}
+impl LentVenue<'_> {
+    // A market at the step of the words, which no event changes.
+    pub(crate) fn set_market(&mut self, m: Market)
+        requires { m.step ≡ (venue_in self.old).market.step }
+        ensures same_loans { SameLoans self.old self.new }
+        ensures becomes { Becomes self.old self.new (in_market m (venue_in self.old)) }
+    {
+        words::set_header_word(self.words, CLOSE, m.close);
+        words::set_header_word(self.words, PHASE, m.phase);
+        words::set_header_word(self.words, BID, m.bid);
+    }
 
-// Sets the count of kept prices: they are then the first so many in the words.
-pub(crate) fn set_kept_count(w: &mut [u32], count: u32)
-    requires { Ordered w.old }
-    ensures { Becomes w.old w.new (with_kept (kept_in w.old book_words count) (venue_of w.old)) }
-{
-    words::set_header_word(w, KEPT, count);
-}
+    // Sets the count of kept prices: they are then the first so many in the words.
+    pub(crate) fn set_kept_count(&mut self, count: u32)
+        ensures same_loans { SameLoans self.old self.new }
+        ensures becomes { Becomes self.old self.new (with_kept (kept_in (words_in self.old) book_words count) (venue_in self.old)) }
+    {
+        words::set_header_word(self.words, KEPT, count);
+    }
 
-// The end of an accepted event.
-pub(crate) fn finish(w: &mut [u32], id: u32, stamp: u32)
-    requires { Ordered w.old × ((venue_of w.old).accepted_events < most_events) }
-    ensures { Becomes w.old w.new (finished id stamp (venue_of w.old)) }
-{
-    let events = words::header_word(w, ACCEPTED_EVENTS);
-    words::set_header_word(w, LAST_ID, id);
-    words::set_header_word(w, LAST_STAMP, stamp);
-    words::set_header_word(w, ACCEPTED_EVENTS, events + 1);
-}
+    // The end of an accepted event that leaves the last id and the last stamp.
+    pub(crate) fn count_event(&mut self)
+        requires { (venue_in self.old).accepted_events < most_events }
+        ensures same_loans { SameLoans self.old self.new }
+        ensures becomes { Becomes self.old self.new (finished (venue_in self.old).last_id (venue_in self.old).last_stamp (venue_in self.old)) }
+    {
+        let events = self.view().header_word(ACCEPTED_EVENTS);
+        words::set_header_word(self.words, ACCEPTED_EVENTS, events + 1);
+    }
 
-// The same, of an event that leaves the last id and the last stamp.
-pub(crate) fn finish_same(w: &mut [u32])
-    requires { Ordered w.old × ((venue_of w.old).accepted_events < most_events) }
-    ensures { Becomes w.old w.new (finished (venue_of w.old).last_id (venue_of w.old).last_stamp (venue_of w.old)) }
-{
-    let events = words::header_word(w, ACCEPTED_EVENTS);
-    words::set_header_word(w, ACCEPTED_EVENTS, events + 1);
+    // The same, of an event with a last id and a last stamp of its own.
+    pub(crate) fn finish(&mut self, id: u32, stamp: u32)
+        requires { (venue_in self.old).accepted_events < most_events }
+        ensures same_loans { SameLoans self.old self.new }
+        ensures becomes { Becomes self.old self.new (finished id stamp (venue_in self.old)) }
+    {
+        words::set_header_word(self.words, LAST_ID, id);
+        words::set_header_word(self.words, LAST_STAMP, stamp);
+        self.count_event();
+    }
 }

@@ -7,6 +7,7 @@ mod enter;
 pub mod fill;
 mod header;
 mod leave;
+mod lent;
 pub mod open;
 mod quote;
 pub mod refusals;
@@ -16,11 +17,11 @@ mod slide;
 mod timed;
 mod working;
 
-use book::{FrontRead, Order, words};
 use prices::TimedPrice;
 
-// The close, the phase of the restriction, the national bid and the step of prices from the dollar border up.
-#[derive(Clone, Copy)]
+// The close, the phase of the restriction, the national bid and the step of prices from the dollar border up. The phase stays a number: the words that
+// the market is read from may hold any, and refusal 16 is given for one above 2.
+#[derive(Clone, Copy, Debug, PartialEq, Eq)]
 pub struct Market {
     pub close: u32,
     pub phase: u32,
@@ -28,8 +29,8 @@ pub struct Market {
     pub step: u32,
 }
 
-// The fields of an entry, in the order of its record.
-#[derive(Clone, Copy)]
+// The fields of an entry, in the order of its record. Mark, show, life and slide stay numbers: a record may hold any, and an entry is refused for those out of range.
+#[derive(Clone, Copy, Debug, PartialEq, Eq)]
 pub struct Entry {
     pub id: u32,
     pub mark: u32,
@@ -40,7 +41,7 @@ pub struct Entry {
     pub slide: u32,
 }
 
-#[derive(Clone, Copy)]
+#[derive(Clone, Copy, Debug, PartialEq, Eq)]
 pub enum Event {
     Entry(Entry),
     // the id
@@ -57,39 +58,45 @@ pub enum Event {
     TimedTape(TimedPrice),
 }
 
+// Why a resting or a working order is cancelled, as report 3 says it.
+#[derive(Clone, Copy, Debug, PartialEq, Eq, Hash)]
+pub enum Cause {
+    // by an event of kind 2
+    AskedFor,
+    // a remainder that doesn't rest
+    ImmediateOrCancel,
+    // an order that would be adjusted and has slide code 3
+    OptOut,
+    EndOfDay,
+    // it would have traded with an order of its own firm (No. 7)
+    SameFirm,
+}
+
 // What becomes of the remainder of a working order: there is none, it is cancelled for a cause, or it rests.
-#[derive(Clone, Copy)]
+#[derive(Clone, Copy, Debug, PartialEq, Eq)]
 pub enum Remainder {
     Filled,
-    Cancelled(u32),
+    Cancelled(Cause),
     Rests,
 }
 
 // What the pass does with an order: leaves it, cancels it, or re-prices it, with the value of "used" that it then has.
-#[derive(Clone, Copy)]
+#[derive(Clone, Copy, Debug, PartialEq, Eq)]
 pub enum Move {
     Stay,
     Cancel,
     Reprice(u32, bool),
 }
 
-// What is left of a working order, and the offset behind its reports.
-#[derive(Clone, Copy)]
-pub struct WorkingOrder {
-    pub left: Order,
-    pub end: usize,
-}
-
-// The offset behind the reports of the pass, or of a part of it, the last stamp, and where the next order likely stands.
-#[derive(Clone, Copy)]
+// The last stamp of the pass, or of a part of it, and where the next order likely stands.
+#[derive(Clone, Copy, Debug, PartialEq, Eq)]
 pub struct Passed {
-    pub end: usize,
     pub stamp: u32,
     pub next: usize,
 }
 
 // Why open, an event or a question is refused.
-#[derive(Clone, Copy)]
+#[derive(Clone, Copy, Debug, PartialEq, Eq, Hash)]
 pub enum Refusal {
     // the report buffer has under 16,384 bytes
     BufferTooShort,
@@ -121,46 +128,11 @@ pub enum Refusal {
     KeptPricesFull,
 }
 
-// Whether an event or a question is refused, and why.
-#[derive(Clone, Copy)]
-pub enum MayRefuse {
-    Refuse(Refusal),
-    Allow,
-}
-
-// What an event answers: the byte count of its reports, or the refusal.
-#[derive(Clone, Copy)]
-pub enum Answer {
-    Accepted(usize),
-    Refused(Refusal),
-}
-
-// What copy out answers: how many records it filled, that the run is shorter than the book, or that the words break a condition of a
-// venue record.
-#[derive(Clone, Copy)]
-pub enum CopyAnswer {
-    Filled(usize),
+// Why copy out fills no record.
+#[derive(Clone, Copy, Debug, PartialEq, Eq, Hash)]
+pub enum CopyError {
+    // the run is shorter than the book
     RunTooShort,
+    // the words break a condition of a venue record
     VenueBroken,
-}
-
-// What the question whether an entry would fill answers: yes or no with the count of orders read, or why it is refused.
-#[derive(Clone, Copy)]
-pub enum FillAnswer {
-    Told(FrontRead),
-    Refused(Refusal),
-}
-
-// What open answers.
-#[derive(Clone, Copy)]
-pub enum OpenAnswer {
-    Fresh,
-    NotOpened(Refusal),
-}
-
-// A fresh venue, with words all 0 where none was made.
-#[derive(Clone, Copy)]
-pub struct Opened {
-    pub answer: OpenAnswer,
-    pub words: [u32; words::VENUE],
 }

@@ -1,42 +1,21 @@
 // The news of the market, after all refusals: a new national bid, and a tape price.
 ghost use Rattle.std.specs.Prelude.{◌≡◌, T};
-ghost use Rattle.numbers.specs.SevenBit.{Put};
 ghost use Rattle.prices.specs.Prices.{is_bid};
 ghost use Rattle.engine.specs.declared.Event.TheVariants.{Bid as bid_event, Tape as tape_event};
-ghost use Rattle.engine.specs.rules.Records.{reports_bytes};
 ghost use Rattle.engine.specs.rules.Venue.{restriction_report};
 ghost use Rattle.engine.specs.rules.Market.{market_after};
-ghost use Rattle.engine.specs.rules.Layout.{venue_of};
-ghost use Rattle.engine.specs.steps.Memory.{MayAccept, Room, effect_in, AcceptsFrom, Accepts};
-ghost use Rattle.engine.specs.steps.Steps.{pass_in, PassesAndFinishes};
+ghost use Rattle.engine.specs.steps.Lent.{words_in, venue_in, effect_in, SameLoans, MayAccept, NoneWritten, HasRoom, ReportedAll, HasRoomInFront, AcceptsFrom, Accepts, PassesAndFinishes};
+ghost use Rattle.engine.specs.steps.Steps.{pass_in};
 
-use crate::{Market, header, report, slide};
-use book::words;
+use crate::lent::LentVenue;
+use crate::{Market, header};
 use prices::restriction;
-
-// The pass in the market of the words, and the end of the event.
-fn pass_and_finish(w: &mut [u32], reports: &mut [u8], at: usize) -> usize
-    requires { MayAccept w.old × Room reports.old at (pass_in w.old).reports }
-    ensures { PassesAndFinishes w.old w.new reports.old reports.new at result }
-{
-    let m = header::market(w);
-    let id = words::header_word(w, header::LAST_ID);
-    let stamp = words::header_word(w, header::LAST_STAMP);
-    let passed = slide::pass(w, reports, at, m, stamp);
-    header::finish(w, id, passed.stamp);
-    passed.end
-}
 
 // The market after a bid.
 fn market_after_bid(m: Market, bid: u32) -> Market
     ensures { result ≡ market_after (bid_event bid) m }
 {
-    Market {
-        close: m.close,
-        phase: m.phase,
-        bid,
-        step: m.step,
-    }
+    Market { bid, ..m }
 }
 
 // The market after a tape price.
@@ -44,42 +23,60 @@ fn market_after_tape(m: Market, price: u32) -> Market
     ensures { result ≡ market_after (tape_event price) m }
 {
     Market {
-        close: m.close,
         phase: restriction::phase_after_tape(m.close, m.phase, price),
-        bid: m.bid,
-        step: m.step,
+        ..m
     }
 }
 
-// Reports that the restriction starts, where the phase has changed.
-fn report_restriction(reports: &mut [u8], at: usize, before: Market, after: Market) -> usize
-    requires { Room reports.old at (restriction_report before after) }
-    ensures { Put (reports_bytes (restriction_report before after)) at reports.old result reports.new }
-{
-    if before.phase == after.phase {
-        return at;
+impl LentVenue<'_> {
+    // Reports that the restriction starts, where the phase has changed.
+    #[tactic(auto, using(std::proofs::lemmas::Grind::common_steps, numbers::proofs::WriteLaws::put_none, crate::proofs::refinement::StepLaws::reports_one), unfolding(crate::specs::rules::Venue::restriction_report, numbers::specs::Tests::pick, crate::specs::rules::Records::reports_bytes))]
+    fn report_restriction(&mut self, before: Market, after: Market)
+        requires { HasRoom self.old (restriction_report before after) }
+        ensures same_loans { SameLoans self.old self.new }
+        ensures reported { ReportedAll self.old self.new (restriction_report before after) }
+    {
+        if before.phase != after.phase {
+            self.report_restriction_starts();
+        }
     }
-    report::write_restriction_starts(reports, at)
-}
 
-// A new national bid.
-pub(crate) fn new_bid(w: &mut [u32], reports: &mut [u8], bid: u32) -> usize
-    requires { MayAccept w.old × T (is_bid (venue_of w.old).market.step bid) × Room reports.old 0 (effect_in w.old (bid_event bid)).reports }
-    ensures { Accepts w.old w.new reports.old reports.new (bid_event bid) result }
-{
-    let m = market_after_bid(header::market(w), bid);
-    header::set_market(w, m);
-    pass_and_finish(w, reports, 0)
-}
+    // The pass in the market of the words, and the end of the event.
+    fn pass_and_finish(&mut self)
+        requires { MayAccept self.old × HasRoom self.old (pass_in (words_in self.old)).reports }
+        ensures same_loans { SameLoans self.old self.new }
+        ensures passes { PassesAndFinishes self.old self.new }
+    {
+        let m = header::market(self.view());
+        let id = self.view().header_word(header::LAST_ID);
+        let stamp = self.view().header_word(header::LAST_STAMP);
+        let last = self.pass(m, stamp);
+        self.finish(id, last);
+    }
 
-// A tape price, its reports written from an offset on.
-pub(crate) fn new_tape(w: &mut [u32], reports: &mut [u8], at: usize, price: u32) -> usize
-    requires { MayAccept w.old × Room reports.old at (effect_in w.old (tape_event price)).reports }
-    ensures { AcceptsFrom w.old w.new reports.old reports.new (tape_event price) at result }
-{
-    let before = header::market(w);
-    let after = market_after_tape(before, price);
-    let end = report_restriction(reports, at, before, after);
-    header::set_market(w, after);
-    pass_and_finish(w, reports, end)
+    // A new national bid.
+    pub(crate) fn new_bid(&mut self, bid: u32)
+        requires may_accept { MayAccept self.old × T (is_bid (venue_in self.old).market.step bid) }
+        requires none_written { NoneWritten self.old }
+        requires room { HasRoomInFront self.old (effect_in self.old (bid_event bid)).reports }
+        ensures same_loans { SameLoans self.old self.new }
+        ensures accepts { Accepts self.old self.new (bid_event bid) }
+    {
+        let m = market_after_bid(header::market(self.view()), bid);
+        self.set_market(m);
+        self.pass_and_finish();
+    }
+
+    // A tape price, its reports written behind those before it.
+    pub(crate) fn new_tape(&mut self, price: u32)
+        requires { MayAccept self.old × HasRoom self.old (effect_in self.old (tape_event price)).reports }
+        ensures same_loans { SameLoans self.old self.new }
+        ensures accepts { AcceptsFrom self.old self.new (tape_event price) }
+    {
+        let before = header::market(self.view());
+        let after = market_after_tape(before, price);
+        self.set_market(after);
+        self.report_restriction(before, after);
+        self.pass_and_finish();
+    }
 }

@@ -1,81 +1,90 @@
-// Reports as bytes: each kind written at an offset of a buffer that has room for it; the offset behind it is returned.
-ghost use Rattle.std.specs.Prelude.{◌+◌, ◌≤◌, length};
-ghost use Rattle.numbers.specs.SevenBit.{Put};
-ghost use Rattle.engine.specs.rules.Reports.{accepted, executed, cancelled, repriced, restriction_starts, day_ended, pause_triggered};
-ghost use Rattle.engine.specs.rules.Records.{report_bytes};
+// Reports as bytes: each kind is written behind those before it, in the lent buffer, which has room for it.
+#![tactic(auto, using(std::proofs::lemmas::Grind::common_steps), unfolding(crate::specs::rules::Records::report_bytes, numbers::specs::SevenBit::bytes_of_all, numbers::specs::SevenBit::bytes_of, numbers::specs::SevenBit::groups, numbers::specs::Tests::pick))]
 
+ghost use Rattle.std.specs.Prelude.{◌≡◌};
+ghost use Rattle.engine.specs.rules.Reports as kinds;
+ghost use Rattle.engine.specs.steps.Lent.{SameLoans, HasRoomFor, Reported};
+
+use crate::Cause;
+use crate::lent::LentVenue;
 use numbers::write;
 
-pub(crate) fn write_accepted(bytes: &mut [u8], at: usize, id: u32, stamp: u32, price: u32) -> usize
-    requires { at + length (report_bytes (accepted id stamp price)) ≤ length bytes.old }
-    ensures { Put (report_bytes (accepted id stamp price)) at bytes.old result bytes.new }
-{
-    let numbers = [1, id as u64, stamp as u64, price as u64];
-    write::put_numbers(bytes, at, &numbers)
+// The paper's number of a cause.
+impl From<Cause> for u32 {
+    ghost from_gives = { λ cause n. n ≡ kinds.cause_number cause };
+
+    fn from(cause: Cause) -> u32 {
+        match cause {
+            Cause::AskedFor => 1,
+            Cause::ImmediateOrCancel => 2,
+            Cause::OptOut => 3,
+            Cause::EndOfDay => 4,
+            Cause::SameFirm => 5,
+        }
+    }
 }
 
-pub(crate) fn write_executed(
-    bytes: &mut [u8],
-    at: usize,
-    buyer: u32,
-    seller: u32,
-    price: u32,
-    shares: u32,
-) -> usize
-    requires { at + length (report_bytes (executed (record { buyer = buyer; seller = seller; price = price; shares = shares }))) ≤ length bytes.old }
-    ensures { Put (report_bytes (executed (record { buyer = buyer; seller = seller; price = price; shares = shares }))) at bytes.old result bytes.new }
-{
-    let numbers = [2, buyer as u64, seller as u64, price as u64, shares as u64];
-    write::put_numbers(bytes, at, &numbers)
-}
+impl LentVenue<'_> {
+    pub(crate) fn report_accepted(&mut self, id: u32, stamp: u32, price: u32)
+        requires { HasRoomFor self.old (kinds.accepted id stamp price) }
+        ensures same_loans { SameLoans self.old self.new }
+        ensures reported { Reported self.old self.new (kinds.accepted id stamp price) }
+    {
+        let numbers = [1, id as u64, stamp as u64, price as u64];
+        self.end = write::put_numbers(self.buffer, self.end, &numbers);
+    }
 
-pub(crate) fn write_cancelled(
-    bytes: &mut [u8],
-    at: usize,
-    id: u32,
-    shares: u32,
-    cause: u32,
-) -> usize
-    requires { at + length (report_bytes (cancelled id shares cause)) ≤ length bytes.old }
-    ensures { Put (report_bytes (cancelled id shares cause)) at bytes.old result bytes.new }
-{
-    let numbers = [3, id as u64, shares as u64, cause as u64];
-    write::put_numbers(bytes, at, &numbers)
-}
+    pub(crate) fn report_executed(&mut self, buyer: u32, seller: u32, price: u32, shares: u32)
+        requires { HasRoomFor self.old (kinds.executed (record { buyer = buyer; seller = seller; price = price; shares = shares })) }
+        ensures same_loans { SameLoans self.old self.new }
+        ensures reported { Reported self.old self.new (kinds.executed (record { buyer = buyer; seller = seller; price = price; shares = shares })) }
+    {
+        let numbers = [2, buyer as u64, seller as u64, price as u64, shares as u64];
+        self.end = write::put_numbers(self.buffer, self.end, &numbers);
+    }
 
-pub(crate) fn write_repriced(bytes: &mut [u8], at: usize, id: u32, price: u32, stamp: u32) -> usize
-    requires { at + length (report_bytes (repriced id price stamp)) ≤ length bytes.old }
-    ensures { Put (report_bytes (repriced id price stamp)) at bytes.old result bytes.new }
-{
-    let numbers = [4, id as u64, price as u64, stamp as u64];
-    write::put_numbers(bytes, at, &numbers)
-}
+    pub(crate) fn report_cancelled(&mut self, id: u32, shares: u32, cause: Cause)
+        requires { HasRoomFor self.old (kinds.cancelled id shares (kinds.cause_number cause)) }
+        ensures same_loans { SameLoans self.old self.new }
+        ensures reported { Reported self.old self.new (kinds.cancelled id shares (kinds.cause_number cause)) }
+    {
+        let numbers = [3, id as u64, shares as u64, u32::from(cause) as u64];
+        self.end = write::put_numbers(self.buffer, self.end, &numbers);
+    }
 
-pub(crate) fn write_restriction_starts(bytes: &mut [u8], at: usize) -> usize
-    requires { at + length (report_bytes restriction_starts) ≤ length bytes.old }
-    ensures { Put (report_bytes restriction_starts) at bytes.old result bytes.new }
-{
-    let numbers = [5];
-    write::put_numbers(bytes, at, &numbers)
-}
+    pub(crate) fn report_repriced(&mut self, id: u32, price: u32, stamp: u32)
+        requires { HasRoomFor self.old (kinds.repriced id price stamp) }
+        ensures same_loans { SameLoans self.old self.new }
+        ensures reported { Reported self.old self.new (kinds.repriced id price stamp) }
+    {
+        let numbers = [4, id as u64, price as u64, stamp as u64];
+        self.end = write::put_numbers(self.buffer, self.end, &numbers);
+    }
 
-pub(crate) fn write_pause_triggered(
-    bytes: &mut [u8],
-    at: usize,
-    direction: u32,
-    price: u32,
-) -> usize
-    requires { at + length (report_bytes (pause_triggered direction price)) ≤ length bytes.old }
-    ensures { Put (report_bytes (pause_triggered direction price)) at bytes.old result bytes.new }
-{
-    let numbers = [7, direction as u64, price as u64];
-    write::put_numbers(bytes, at, &numbers)
-}
+    pub(crate) fn report_restriction_starts(&mut self)
+        requires { HasRoomFor self.old kinds.restriction_starts }
+        ensures same_loans { SameLoans self.old self.new }
+        ensures reported { Reported self.old self.new kinds.restriction_starts }
+    {
+        let numbers = [5];
+        self.end = write::put_numbers(self.buffer, self.end, &numbers);
+    }
 
-pub(crate) fn write_day_ended(bytes: &mut [u8], at: usize, phase: u32) -> usize
-    requires { at + length (report_bytes (day_ended phase)) ≤ length bytes.old }
-    ensures { Put (report_bytes (day_ended phase)) at bytes.old result bytes.new }
-{
-    let numbers = [6, phase as u64];
-    write::put_numbers(bytes, at, &numbers)
+    pub(crate) fn report_day_ended(&mut self, phase: u32)
+        requires { HasRoomFor self.old (kinds.day_ended phase) }
+        ensures same_loans { SameLoans self.old self.new }
+        ensures reported { Reported self.old self.new (kinds.day_ended phase) }
+    {
+        let numbers = [6, phase as u64];
+        self.end = write::put_numbers(self.buffer, self.end, &numbers);
+    }
+
+    pub(crate) fn report_pause_triggered(&mut self, direction: u32, price: u32)
+        requires { HasRoomFor self.old (kinds.pause_triggered direction price) }
+        ensures same_loans { SameLoans self.old self.new }
+        ensures reported { Reported self.old self.new (kinds.pause_triggered direction price) }
+    {
+        let numbers = [7, direction as u64, price as u64];
+        self.end = write::put_numbers(self.buffer, self.end, &numbers);
+    }
 }

@@ -1,29 +1,28 @@
 // The pass: where restricted orders go when the bid or the phase has changed, lowest id first.
 ghost use Rattle.std.specs.Prelude.{◌≡◌, ◌+◌, ◌<◌, ◌&&◌, not, T, leb, length, get_or};
 ghost use Rattle.prices.specs.Prices.{is_bid};
+ghost use Rattle.book.specs.rules.Orders.{without};
 ghost use Rattle.book.specs.rules.Words.{empty_order, resting};
-ghost use Rattle.book.specs.steps.BookSteps.{Book};
-ghost use Rattle.engine.specs.declared.Move.TheVariants.{Reprice};
-ghost use Rattle.engine.specs.rules.Pass.{displayed_clear, move_down, slide_once, slide_down, may_slide, move_of, at_new_price, after_move, pass_over};
-ghost use Rattle.engine.specs.steps.Memory.{Ordered, Room, Does, DoesEffect};
-ghost use Rattle.engine.specs.steps.Steps.{move_in_pass, turn_of, ids_of, StartsWithIds};
+ghost use Rattle.engine.specs.rules.Pass.{displayed_clear, move_down, slide_once, slide_down, may_slide, move_of, at_new_price, pass_over};
+ghost use Rattle.engine.specs.rules.Working.{work};
+ghost use Rattle.engine.specs.steps.Lent.{resting_in, SameLoans, HasRoom, Does, DoesEffect};
+ghost use Rattle.engine.specs.steps.Steps.{move_in_pass, repriced_reports, turn_at, turn_of, ids_of, StartsWithIds};
 
-use crate::{Market, Move, Passed, report, working};
-use book::{Order, Position, place, search, words};
-use numbers::sizes;
+use crate::lent::LentVenue;
+use crate::{Cause, Market, Move, Passed, working};
+use book::{BookView, Order, place};
 use prices::restriction;
 
 // Whether an order is displayed and clear.
+#[tactic(auto, using(std::proofs::lemmas::Grind::common_steps), unfolding(crate::specs::rules::Pass::displayed_clear))]
 fn displayed_clear(o: Order) -> bool
     ensures { result ≡ displayed_clear o }
 {
-    if o.show == 1 {
-        return o.clear;
-    }
-    false
+    o.show == 1 && o.clear
 }
 
 // To a price, if that is lower.
+#[tactic(auto, using(std::proofs::lemmas::Grind::common_steps), unfolding(crate::specs::rules::Pass::move_down, numbers::specs::Tests::pick))]
 fn move_down(price: u32, used: bool, o: Order) -> Move
     ensures { result ≡ move_down price used o }
 {
@@ -34,26 +33,25 @@ fn move_down(price: u32, used: bool, o: Order) -> Move
 }
 
 // Where an adjusted order with slide once goes.
+#[tactic(auto, using(std::proofs::lemmas::Grind::common_steps), unfolding(crate::specs::rules::Pass::slide_once, numbers::specs::Tests::pick))]
 fn slide_once(m: Market, o: Order) -> Move
     ensures { result ≡ slide_once m o }
 {
-    if o.used {
-        return Move::Stay;
-    }
-    let price = sizes::larger(o.limit, o.entry_bid);
-    if m.bid < price {
+    let price = o.limit.max(o.entry_bid);
+    if !o.used && m.bid < price {
         return move_down(price, true, o);
     }
     Move::Stay
 }
 
 // Where an order goes that may slide down.
+#[tactic(auto, using(std::proofs::lemmas::Grind::common_steps), unfolding(crate::specs::rules::Pass::slide_down, numbers::specs::Tests::pick))]
 fn slide_down(m: Market, o: Order) -> Move
     requires { T (is_bid m.step m.bid) }
     ensures { result ≡ slide_down m o }
 {
     if o.slide == 0 {
-        return move_down(sizes::larger(o.limit, working::permitted_now(m)), o.used, o);
+        return move_down(o.limit.max(working::permitted_now(m)), o.used, o);
     }
     if o.slide == 1 {
         return slide_once(m, o);
@@ -65,26 +63,19 @@ fn slide_down(m: Market, o: Order) -> Move
 fn must_move(m: Market, o: Order) -> bool
     ensures { result ≡ (leb o.price m.bid && not (displayed_clear o)) }
 {
-    if o.price <= m.bid {
-        return !displayed_clear(o);
-    }
-    false
+    o.price <= m.bid && !displayed_clear(o)
 }
 
 // Whether an order that need not move may slide down: it is adjusted, and no market short without a bid.
+#[tactic(auto, using(std::proofs::lemmas::Grind::common_steps), unfolding(crate::specs::rules::Pass::may_slide))]
 fn may_slide(m: Market, o: Order) -> bool
     ensures { result ≡ may_slide m o }
 {
-    if o.adjusted {
-        if o.market {
-            return m.bid != 0;
-        }
-        return true;
-    }
-    false
+    o.adjusted && !(o.market && m.bid == 0)
 }
 
 // Where a restricted order goes.
+#[tactic(auto, using(std::proofs::lemmas::Grind::common_steps), unfolding(crate::specs::rules::Pass::move_of, numbers::specs::Tests::pick))]
 fn move_of(m: Market, o: Order) -> Move
     requires { T (is_bid m.step m.bid) }
     ensures { result ≡ move_of m o }
@@ -102,6 +93,7 @@ fn move_of(m: Market, o: Order) -> Move
 }
 
 // Where an order of any mark goes.
+#[tactic(auto, using(std::proofs::lemmas::Grind::common_steps), unfolding(numbers::specs::Tests::pick))]
 fn move_in_pass(m: Market, o: Order) -> Move
     requires { T (is_bid m.step m.bid) }
     ensures { result ≡ move_in_pass m o }
@@ -116,144 +108,94 @@ fn move_in_pass(m: Market, o: Order) -> Move
 fn at_new_price(price: u32, stamp: u32, used: bool, o: Order) -> Order
     ensures { result ≡ at_new_price price stamp used o }
 {
-    let mut r = o;
-    r.price = price;
-    r.stamp = stamp;
-    r.adjusted = true;
-    r.used = used;
-    r.clear = true;
-    r
-}
-
-// The order o, which is at position i, is taken out, reported at its new price, and works.
-fn reprice(
-    w: &mut [u32],
-    reports: &mut [u8],
-    at: usize,
-    i: usize,
-    o: Order,
-    price: u32,
-    used: bool,
-    stamp: u32,
-) -> usize
-    requires ordered { Ordered w.old × (i < length (resting w.old)) × (o ≡ get_or (resting w.old) i empty_order) × (stamp < 4294967295) }
-    requires room { Room reports.old at (after_move (Reprice price used) o (resting w.old) stamp).reports }
-    ensures { Does w.old w.new reports.old reports.new at (after_move (Reprice price used) o (resting w.old) stamp).orders (after_move (Reprice price used) o (resting w.old) stamp).reports result }
-{
-    let x = at_new_price(price, stamp + 1, used, o);
-    place::remove(w, i);
-    let end = report::write_repriced(reports, at, x.id, x.price, x.stamp);
-    working::work(w, reports, end, x)
-}
-
-// The order o, which is at position i, is moved.
-fn make_move(
-    w: &mut [u32],
-    reports: &mut [u8],
-    at: usize,
-    i: usize,
-    o: Order,
-    made: Move,
-    stamp: u32,
-) -> Passed
-    requires ordered { Ordered w.old × (i < length (resting w.old)) × (o ≡ get_or (resting w.old) i empty_order) × (stamp < 4294967295) }
-    requires room { Room reports.old at (after_move made o (resting w.old) stamp).reports }
-    ensures { DoesEffect w.old w.new reports.old reports.new at (after_move made o (resting w.old) stamp) result.end result.stamp }
-{
-    match made {
-        Move::Stay => Passed {
-            end: at,
-            stamp,
-            next: i + 1,
-        },
-        Move::Cancel => {
-            let end = report::write_cancelled(reports, at, o.id, o.shares, working::OPT_OUT);
-            place::remove(w, i);
-            Passed {
-                end,
-                stamp,
-                next: i,
-            }
-        },
-        Move::Reprice(price, used) => {
-            let end = reprice(w, reports, at, i, o, price, used, stamp);
-            Passed {
-                end,
-                stamp: stamp + 1,
-                next: i + 1,
-            }
-        },
+    Order {
+        price,
+        stamp,
+        adjusted: true,
+        used,
+        clear: true,
+        ..o
     }
 }
 
-// The turn of the order with an id, which likely stands at a position; one that no longer rests is skipped.
-fn turn(
-    w: &mut [u32],
-    reports: &mut [u8],
-    at: usize,
-    m: Market,
-    id: u32,
-    near: usize,
-    stamp: u32,
-) -> Passed
-    requires { Ordered w.old × T (is_bid m.step m.bid) × (stamp < 4294967295) × Room reports.old at (turn_of m id (resting w.old) stamp).reports }
-    ensures { DoesEffect w.old w.new reports.old reports.new at (turn_of m id (resting w.old) stamp) result.end result.stamp }
-{
-    let Position::At(i) = search::find_near(w, id, near) else {
-        return Passed {
-            end: at,
-            stamp,
-            next: near,
-        };
-    };
-    let o = words::load(w, i);
-    let made = move_in_pass(m, o);
-    make_move(w, reports, at, i, o, made, stamp)
-}
-
 // The ids of the resting orders, at the front.
-fn resting_ids(w: &[u32]) -> [u32; 256]
-    requires { Book w.now }
-    ensures { StartsWithIds result (resting w.now) }
+fn resting_ids(book: BookView) -> [u32; 256]
+    ensures { StartsWithIds result (resting book.entry.words.now) }
 {
     let mut ids = [0u32; 256];
-    let count = words::count(w);
-    let mut i = 0;
-    while i < count {
-        ids[i] = search::id_at(w, i);
-        i += 1;
+    for i in 0..book.count() {
+        ids[i] = book.id_at(i);
     }
     ids
 }
 
-// The pass over the orders then resting; none is restricted while the restriction is off.
-pub(crate) fn pass(w: &mut [u32], reports: &mut [u8], at: usize, m: Market, stamp: u32) -> Passed
-    requires { Ordered w.old × T (is_bid m.step m.bid) × (stamp + 256 < 4294967296) × Room reports.old at (pass_over m (ids_of (resting w.old)) (resting w.old) stamp).reports }
-    ensures { DoesEffect w.old w.new reports.old reports.new at (pass_over m (ids_of (resting w.old)) (resting w.old) stamp) result.end result.stamp }
-{
-    if !restriction::restriction_on(m.phase) {
-        return Passed {
-            end: at,
-            stamp,
-            next: 0,
-        };
+impl LentVenue<'_> {
+    // The order at a position is taken out, reported at its new price, where it is x, and works. Not inlined: few turns come here, and
+    // inlined it costs each of the others registers.
+    #[inline(never)]
+    fn reprice(&mut self, at: usize, x: Order)
+        requires within { (at < length (resting_in self.old)) × (x.id ≡ (get_or (resting_in self.old) at empty_order).id) }
+        requires room { HasRoom self.old (repriced_reports x (without x.id (resting_in self.old))) }
+        ensures same_loans { SameLoans self.old self.new }
+        ensures does { Does self.old self.new (work x (without x.id (resting_in self.old))).orders (repriced_reports x (without x.id (resting_in self.old))) }
+    {
+        place::remove(self.words, at);
+        self.report_repriced(x.id, x.price, x.stamp);
+        self.work(x);
     }
-    let count = words::count(w);
-    let ids = resting_ids(w);
-    let mut end = at;
-    let mut last = stamp;
-    let mut near = 0;
-    let mut i = 0;
-    while i < count {
-        let turned = turn(w, reports, end, m, ids[i], near, last);
-        end = turned.end;
-        last = turned.stamp;
-        near = turned.next;
-        i += 1;
+
+    // The turn of the order at position i.
+    fn turn_at(&mut self, m: Market, i: usize, stamp: u32) -> Passed
+        requires within { (i < length (resting_in self.old)) × T (is_bid m.step m.bid) × (stamp < 4294967295) }
+        requires room { HasRoom self.old (turn_at m i (resting_in self.old) stamp).reports }
+        ensures same_loans { SameLoans self.old self.new }
+        ensures does { DoesEffect self.old self.new (turn_at m i (resting_in self.old) stamp) result.stamp }
+    {
+        let o = self.view().order(i);
+        match move_in_pass(m, o) {
+            Move::Stay => Passed { stamp, next: i + 1 },
+            Move::Cancel => {
+                place::remove(self.words, i);
+                self.report_cancelled(o.id, o.shares, Cause::OptOut);
+                Passed { stamp, next: i }
+            },
+            Move::Reprice(price, used) => {
+                self.reprice(i, at_new_price(price, stamp + 1, used, o));
+                Passed {
+                    stamp: stamp + 1,
+                    next: i + 1,
+                }
+            },
+        }
     }
-    Passed {
-        end,
-        stamp: last,
-        next: near,
+
+    // The turn of the order with an id, which likely stands at the next position; one that no longer rests is skipped.
+    fn turn(&mut self, m: Market, id: u32, passed: Passed) -> Passed
+        requires { T (is_bid m.step m.bid) × (passed.stamp < 4294967295) × HasRoom self.old (turn_of m id (resting_in self.old) passed.stamp).reports }
+        ensures same_loans { SameLoans self.old self.new }
+        ensures does { DoesEffect self.old self.new (turn_of m id (resting_in self.old) passed.stamp) result.stamp }
+    {
+        match self.view().find_near(id, passed.next) {
+            Some(i) => self.turn_at(m, i, passed.stamp),
+            None => passed,
+        }
+    }
+
+    // The pass over the orders then resting; none is restricted while the restriction is off. The last stamp is returned.
+    pub(crate) fn pass(&mut self, m: Market, stamp: u32) -> u32
+        requires { T (is_bid m.step m.bid) × (stamp + 256 < 4294967296) × HasRoom self.old (pass_over m (ids_of (resting_in self.old)) (resting_in self.old) stamp).reports }
+        ensures same_loans { SameLoans self.old self.new }
+        ensures does { DoesEffect self.old self.new (pass_over m (ids_of (resting_in self.old)) (resting_in self.old) stamp) result }
+    {
+        if !restriction::restriction_on(m.phase) {
+            return stamp;
+        }
+        let count = self.view().count();
+        let ids = resting_ids(self.view());
+        let mut passed = Passed { stamp, next: 0 };
+        for &id in &ids[..count] {
+            passed = self.turn(m, id, passed);
+        }
+        passed.stamp
     }
 }

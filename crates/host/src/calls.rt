@@ -1,31 +1,27 @@
 // Open, the event, the record check and the permitted price for host programs.
-ghost use Rattle.std.specs.Prelude.{◌≡◌, ◌++◌, ◌≤◌, length, drop};
+ghost use Rattle.std.specs.Prelude.{◌≡◌, ◌<◌};
+ghost use Rattle.numbers.specs.Answers.{refuses};
 ghost use Rattle.numbers.specs.Tests.{All};
 ghost use Rattle.prices.specs.Prices.{permitted_of};
 ghost use Rattle.engine.specs.rules.Records.{record_numbers, record_at};
 ghost use Rattle.engine.specs.claims.RoundTrips.{Word};
-ghost use Rattle.engine.specs.rules.Answers.{outcome_of_answer};
 ghost use Rattle.host.specs.rules.Host.{host_answer, end_or_zero, value_or_zero};
-ghost use Rattle.host.specs.claims.Calls.{HostOpened, AnswerFits, EventApplied, HostApplied};
+ghost use Rattle.host.specs.claims.Calls.{HostOpened, EventApplied, HostApplied};
 
 use book::words;
-use engine::{Answer, Event, OpenAnswer, Refusal, apply, open, refusals};
-use prices::{PermittedAnswer, increments};
-use records::{RecordRead, record};
+use engine::{Event, Refusal, apply, open};
+use prices::increments;
+use records::{EventAt, record};
 
 // An answer is refusal × REFUSAL_UNIT + byte count.
-pub(crate) const REFUSAL_UNIT: u32 = 65_536;
+const REFUSAL_UNIT: u32 = 65_536;
 
-// Copies words to the front of a run that has room for them.
-fn copy_words(to: &mut [u32], from: &[u32])
-    requires { length from.now ≤ length to.old }
-    ensures { to.new ≡ from.now ++ drop (length from.now) to.old }
+// The answer of a refusal, by its number.
+pub(crate) fn refused(number: u32) -> u32
+    requires { number < 65_536 }
+    ensures { result ≡ host_answer (refuses number) }
 {
-    let mut k = 0;
-    while k < from.len() {
-        to[k] = from[k];
-        k += 1;
-    }
+    number * REFUSAL_UNIT
 }
 
 // Makes the words a fresh venue at a step, those behind it kept; a refusal changes no word.
@@ -33,28 +29,14 @@ pub fn venue_open(words: &mut [u32], step: u32, close: u32) -> u32
     ensures { HostOpened words.old step close result words.new }
 {
     if words.len() < words::VENUE {
-        return refusals::number_of(Refusal::VenueBroken) * REFUSAL_UNIT;
+        return refused(u32::from(Refusal::VenueBroken));
     }
-    let opened = open::open(step, close);
-    let answer = opened.answer;
-    match answer {
-        OpenAnswer::NotOpened(refusal) => refusals::number_of(refusal) * REFUSAL_UNIT,
-        OpenAnswer::Fresh => {
-            let fresh = opened.words;
-            copy_words(words, &fresh);
+    match open::open(step, close) {
+        Ok(fresh) => {
+            words[..fresh.len()].copy_from_slice(&fresh);
             0
         }
-    }
-}
-
-// The answer of an event as a number.
-fn answer_number(answer: Answer) -> u32
-    requires { AnswerFits (outcome_of_answer answer) }
-    ensures { result ≡ host_answer (outcome_of_answer answer) }
-{
-    match answer {
-        Answer::Refused(refusal) => refusals::number_of(refusal) * REFUSAL_UNIT,
-        Answer::Accepted(count) => count as u32,
+        Err(refusal) => refused(u32::from(refusal)),
     }
 }
 
@@ -63,7 +45,10 @@ fn apply_event(words: &mut [u32], event: Event, reports: &mut [u8]) -> u32
     requires { All Word (record_numbers event) }
     ensures { EventApplied words.old event reports.old result words.new reports.new }
 {
-    answer_number(apply::apply(words, event, reports))
+    match apply::apply(words, event, reports) {
+        Ok(count) => count as u32,
+        Err(refusal) => refused(u32::from(refusal)),
+    }
 }
 
 // The event whose record stands at offset 0; a refusal changes no word and no byte.
@@ -71,8 +56,8 @@ pub fn venue_apply(words: &mut [u32], record: &[u8], reports: &mut [u8]) -> u32
     ensures { HostApplied words.old «record».now reports.old result words.new reports.new }
 {
     match record::read_record(record, 0) {
-        RecordRead::Refused(refusal) => record::refusal_number(refusal) * REFUSAL_UNIT,
-        RecordRead::Record { event, end: _ } => apply_event(words, event, reports),
+        Ok(EventAt { event, end: _ }) => apply_event(words, event, reports),
+        Err(unreadable) => refused(u32::from(unreadable)),
     }
 }
 
@@ -81,8 +66,8 @@ pub fn venue_record_check(bytes: &[u8]) -> u64
     ensures { result ≡ end_or_zero (record_at bytes.now 0) }
 {
     match record::read_record(bytes, 0) {
-        RecordRead::Refused(_) => 0,
-        RecordRead::Record { event: _, end } => end as u64,
+        Ok(read) => read.end as u64,
+        Err(_unreadable) => 0,
     }
 }
 
@@ -91,8 +76,7 @@ pub fn venue_permitted_price(step: u32, bid: u32) -> u32
     ensures { result ≡ value_or_zero (permitted_of step bid) }
 {
     match increments::permitted_price(step, bid) {
-        PermittedAnswer::NotStep => 0,
-        PermittedAnswer::NotBid => 0,
-        PermittedAnswer::Permitted(price) => price.value,
+        Ok(price) => price.value,
+        Err(_) => 0,
     }
 }

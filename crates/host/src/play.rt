@@ -6,10 +6,7 @@ ghost use Rattle.host.specs.claims.PlayCalls.{HostPlayed};
 
 use crate::calls;
 use days::{Stop, play};
-use records::record;
-
-// The answer of refusal 16.
-const VENUE_BROKEN: u32 = 16 * calls::REFUSAL_UNIT;
+use engine::Refusal;
 
 // Why playing stopped, as a number: refusal × REFUSAL_UNIT, or 0 to 2 where nothing is refused.
 fn stop_number(stop: Stop) -> u32
@@ -19,8 +16,8 @@ fn stop_number(stop: Stop) -> u32
         Stop::AllPlayed => 0,
         Stop::EndsFull => 1,
         Stop::ReportsFull => 2,
-        Stop::Unreadable(refusal) => record::refusal_number(refusal) * calls::REFUSAL_UNIT,
-        Stop::VenueBroken => VENUE_BROKEN,
+        Stop::Unreadable(refusal) => calls::refused(u32::from(refusal)),
+        Stop::VenueBroken => calls::refused(u32::from(Refusal::VenueBroken)),
     }
 }
 
@@ -36,11 +33,8 @@ pub fn venue_play(
     ensures { HostPlayed words.old records.now from reports.old ends.old progress.old result words.new reports.new ends.new progress.new }
 {
     let played = play::play(words, records, from as usize, reports, ends);
-    let reached = [played.events as u64, played.at as u64, played.end as u64];
-    let stop = played.stop;
-    let answer = stop_number(stop);
-    if answer != VENUE_BROKEN {
-        *progress = reached;
+    if played.stop != Stop::VenueBroken {
+        *progress = [played.events as u64, played.at as u64, played.end as u64];
     }
-    answer
+    stop_number(played.stop)
 }

@@ -5,17 +5,17 @@ use native.Mathlib.Numerals.{add-one}
 use native.Mathlib.Decide.{dec_lt}
 use native.Mathlib.Omega.{arith}
 use mathlib.Core.Path.{◌≡◌, refl, sym, ap, ap₂, ◌∙◌, subst}
-use mathlib.Core.Bool.{Bool, true, false, not, ◌&&◌}
+use mathlib.Core.Bool.{not, ◌&&◌}
 use mathlib.Core.Logic.{◌⊎◌, inl, inr}
 use mathlib.Core.List.{List, [], ◌∷◌, ◌++◌}
 use lib.Dec.{T, leb, ltb, eqb, leb→le, nleb→lt}
 use lib.ListN.{length, get_or, drop, length-append, length-drop, drop_of_length-le}
 use lib.Seq.{drop-append_seam, drop-drop, drop-cons}
-use borrow.Author.Tests.{lt-ltb, le-ltb, le-leb, lt-leb, ne_eqb}
+use borrow.Author.Tests.{le-ltb, le-leb, lt-leb, ne_eqb}
 use Rattle.numbers.specs.Tests.{pick, All}
 use Rattle.numbers.specs.Answers.{Outcome, gives, refuses, Read}
-use Rattle.numbers.specs.declared.Group.{Group}
-use Rattle.numbers.specs.declared.Group.TheVariants.{More, Last, Bad}
+use Rattle.numbers.specs.declared.read.Group.{Group}
+use Rattle.numbers.specs.declared.read.Group.TheVariants.{More, Last, Bad}
 use Rattle.numbers.specs.SevenBit.{IsByte, bytes_of, judge, on_group, by_group, groups_at, number_at, Stands}
 use Rattle.numbers.proofs.TestLaws.{by_test, nand_T, and-false, neqb, tests}
 use Rattle.numbers.proofs.PlaceLaws.{stands_first}
@@ -35,18 +35,6 @@ judge_last (suc k) b h l p = simp (ne_eqb (suc k) 9 h, lt-leb 128 b l, ne_eqb b 
 pub judge_tenth : (b : ℕ) → b < 2 → 0 < b → judge 9 b ≡ Last
 unfolding judge pick
 judge_tenth b l p = simp (le-ltb 1 b (omega arith), lt-leb 128 b (omega arith), ne_eqb b 0 (λ e. omega arith))
-
-pub judge_above : (b : ℕ) → 1 < b → judge 9 b ≡ Bad
-unfolding judge pick
-judge_above b l = simp (lt-ltb 1 b l)
-
-pub judge_zero : (k : ℕ) → 0 < k → judge k 0 ≡ Bad
-unfolding judge pick
-judge_zero k p = by_nine (eqb k 9)
-  where
-    by_nine : (t : Bool) → pick (t && false) Bad (pick false More (pick (ltb 0 k && true) Bad Last)) ≡ Bad
-    by_nine true = simp (lt-ltb 0 k p)
-    by_nine false = simp (lt-ltb 0 k p)
 
 -- a number that was read, with its end
 abbrev pub number : ℕ → ℕ → Outcome (Read ℕ)
@@ -233,22 +221,22 @@ module _ {bytes : List ℕ} {at value scale before i : ℕ} (h : Reading bytes a
   unfolding groups_at
   reading_missing l = h.rest ∙ rw (drop_of_length-le bytes l)
 
-  module _ (l : i < length bytes) where
-    group_at : groups_at before i (drop i bytes) ≡ by_group (judge before (get_or bytes i 0)) (get_or bytes i 0) i (groups_at (suc before) (suc i) (drop (suc i) bytes))
+  module _ {b : ℕ} (l : i < length bytes) (is : b ≡ get_or bytes i 0) where
+    group_at : groups_at before i (drop i bytes) ≡ by_group (judge before b) b i (groups_at (suc before) (suc i) (drop (suc i) bytes))
     unfolding groups_at
-    group_at = rw (drop-cons bytes i 0)
+    group_at = rw (is, drop-cons bytes i 0)
 
-    by_kind : (g : Group) → judge before (get_or bytes i 0) ≡ g → number_at bytes at ≡ continued value scale (by_group g (get_or bytes i 0) i (groups_at (suc before) (suc i) (drop (suc i) bytes)))
-    by_kind g e = h.rest ∙ ap (continued value scale) (group_at ∙ ap (λ x. by_group x (get_or bytes i 0) i (groups_at (suc before) (suc i) (drop (suc i) bytes))) e)
+    by_kind : (g : Group) → judge before b ≡ g → number_at bytes at ≡ continued value scale (by_group g b i (groups_at (suc before) (suc i) (drop (suc i) bytes)))
+    by_kind g e = h.rest ∙ ap (continued value scale) (group_at ∙ ap (λ x. by_group x b i (groups_at (suc before) (suc i) (drop (suc i) bytes))) e)
 
-    pub reading_bad : judge before (get_or bytes i 0) ≡ Bad → number_at bytes at ≡ refuses 10
+    pub reading_bad : judge before b ≡ Bad → number_at bytes at ≡ refuses 10
     reading_bad e = by_kind Bad e
 
-    pub reading_last : judge before (get_or bytes i 0) ≡ Last → number_at bytes at ≡ number (value + scale * get_or bytes i 0) (i + 1)
-    reading_last e = by_kind Last e ∙ ap (number (value + scale * get_or bytes i 0)) (omega arith)
+    pub reading_last : judge before b ≡ Last → number_at bytes at ≡ number (value + scale * b) (i + 1)
+    reading_last e = by_kind Last e ∙ ap (number (value + scale * b)) (omega arith)
 
-    says : (g : Group) → judge before (get_or bytes i 0) ≡ g → JudgeSays before (get_or bytes i 0) g
-    says g e = subst (JudgeSays before (get_or bytes i 0)) e (judge_says before (get_or bytes i 0))
+    says : (g : Group) → judge before b ≡ g → JudgeSays before b g
+    says g e = subst (JudgeSays before b) e (judge_says before b)
 
     -- the scale while another group may follow, and in any case
     scale_more : before < 9 → scale * 128 ≤ 2 ^ 63
@@ -257,34 +245,37 @@ module _ {bytes : List ℕ} {at value scale before i : ℕ} (h : Reading bytes a
     scale_most : scale ≤ 2 ^ 63
     scale_most = omega (arith, h.power, pow-le-pow_right {n = 128} (omega arith) {i = before} {j = 9} h.few)
 
-    pub last_fits : judge before (get_or bytes i 0) ≡ Last → value + scale * get_or bytes i 0 < 2 ^ 64
+    pub last_fits : judge before b ≡ Last → value + scale * b < 2 ^ 64
     last_fits e = go (says Last e) (dec_lt before 9)
       where
-        go : JudgeSays before (get_or bytes i 0) Last → Dec (before < 9) → value + scale * get_or bytes i 0 < 2 ^ 64
-        go j (yes s) = omega (arith, h.below, scale_more s, mul-le-mul_left {m = get_or bytes i 0} {n = 127} scale (omega (arith, j.0)))
-        go j (no s) = omega (arith, h.below, scale_most, mul-le-mul_left {m = get_or bytes i 0} {n = 1} scale (omega (arith, j.2 (omega (arith, h.few)))))
+        go : JudgeSays before b Last → Dec (before < 9) → value + scale * b < 2 ^ 64
+        go j (yes s) = omega (arith, h.below, scale_more s, mul-le-mul_left {m = b} {n = 127} scale (omega (arith, j.0)))
+        go j (no s) = omega (arith, h.below, scale_most, mul-le-mul_left {m = b} {n = 1} scale (omega (arith, j.2 (omega (arith, h.few)))))
 
-    module _ (e : judge before (get_or bytes i 0) ≡ More) (y : IsByte (get_or bytes i 0)) where
-      pub more_high : 128 ≤ get_or bytes i 0
+    module _ (e : judge before b ≡ More) (y : IsByte b) where
+      pub more_high : 128 ≤ b
       more_high = (says More e).0
 
       pub more_few : before < 9
       more_few = let n = (says More e).1 in omega (arith, h.few, n)
 
-      group_below : scale * (get_or bytes i 0 - 128) ≤ scale * 127
-      group_below = mul-le-mul_left {m = get_or bytes i 0 - 128} {n = 127} scale (omega arith)
+      group_below : scale * (b - 128) ≤ scale * 127
+      group_below = mul-le-mul_left {m = b - 128} {n = 127} scale (omega arith)
 
-      pub more_fits : value + scale * (get_or bytes i 0 - 128) < 2 ^ 64
+      pub more_fits : value + scale * (b - 128) < 2 ^ 64
       more_fits = omega (arith, h.below, scale_more more_few, group_below)
 
       pub scale_fits : scale * 128 < 2 ^ 64
       scale_fits = omega (arith, scale_more more_few)
 
-      pub reading_more : Reading bytes at (value + scale * (get_or bytes i 0 - 128)) (scale * 128) (before + 1) (i + 1)
+      pub reading_more : Reading bytes at (value + scale * (b - 128)) (scale * 128) (before + 1) (i + 1)
       reading_more =
           record {
             few = omega (arith, more_few);
             power = rw (add-one, pow-suc 128 before) (ap (λ x. x * 128) h.power);
             below = omega (arith, h.below, group_below);
-            rest = rw (add-one before, add-one i) (by_kind More e ∙ continued_more value scale (get_or bytes i 0 - 128) (groups_at (suc before) (suc i) (drop (suc i) bytes)));
+            rest = rw (add-one before, add-one i) (by_kind More e ∙ continued_more value scale (b - 128) (groups_at (suc before) (suc i) (drop (suc i) bytes)));
           }
+
+-- the laws of the loop over groups, for the check to try
+pub ruleset reading_steps = (reading_start, reading_missing, reading_bad, reading_last, last_fits, more_high, more_fits, scale_fits)

@@ -1,13 +1,13 @@
 -- The seven-bit form of a number: document 01, "The seven-bit form", and document 02, No. 5. Assumes nothing.
-use Rattle.std.specs.Prelude.{ℕ, zero, suc, ◌+◌, ◌-◌, ◌*◌, ◌^◌, ◌/◌, ◌%◌, ◌≤◌, ◌<◌, ◌≡◌, ◌&&◌, List, [], ◌∷◌, ◌++◌, leb, ltb, eqb, length, take, drop}
+use Rattle.std.specs.Prelude.{ℕ, zero, suc, ◌+◌, ◌-◌, ◌*◌, ◌^◌, ◌/◌, ◌%◌, ◌≤◌, ◌<◌, ◌≡◌, ◌&&◌, List, [], ◌∷◌, ◌++◌, leb, ltb, eqb, length, take, drop, Result, Ok, Err}
 use Rattle.numbers.specs.Tests.{pick}
 use Rattle.numbers.specs.Answers.{Outcome, gives, refuses, Read}
-use Rattle.numbers.specs.declared.Group.{Group}
-use Rattle.numbers.specs.declared.Group.TheVariants.{More, Last, Bad}
-use Rattle.numbers.specs.declared.NumberRead.{NumberRead}
-use Rattle.numbers.specs.declared.NumberRead.TheVariants.{Value, MissingByte, BadNumber}
-use Rattle.numbers.specs.declared.NumberWrite.{NumberWrite}
-use Rattle.numbers.specs.declared.NumberWrite.TheVariants.{End, NoRoom}
+use Rattle.numbers.specs.declared.read.Group.{Group}
+use Rattle.numbers.specs.declared.read.Group.TheVariants.{More, Last, Bad}
+use Rattle.numbers.specs.declared.read.NumberAt.{NumberAt}
+use Rattle.numbers.specs.declared.read.NumberError.{NumberError}
+use Rattle.numbers.specs.declared.read.NumberError.TheVariants.{MissingByte, BadNumber}
+use Rattle.numbers.specs.declared.write.NoRoom.{NoRoom}
 
 abbrev pub IsByte : ℕ → Type 0
 IsByte b = b < 256
@@ -74,10 +74,13 @@ unfoldable pub number_at : List ℕ → ℕ → Outcome (Read ℕ)
 number_at bytes at = groups_at 0 at (drop at bytes)
 
 -- the paper's terms for the answers of `read_number`
-abbrev pub outcome_of_read : NumberRead → Outcome (Read ℕ)
-outcome_of_read (Value x e) = gives (record { value = x; end = e })
-outcome_of_read MissingByte = refuses 9
-outcome_of_read BadNumber = refuses 10
+abbrev pub number_of_error : NumberError → ℕ
+number_of_error MissingByte = 9
+number_of_error BadNumber = 10
+
+abbrev pub outcome_of_read : Result NumberAt NumberError → Outcome (Read ℕ)
+outcome_of_read (Ok n) = gives (record { value = n.value; end = n.end })
+outcome_of_read (Err e) = refuses (number_of_error e)
 
 -- Bytes in their place
 
@@ -104,6 +107,6 @@ pub record Put (new : List ℕ) (at : ℕ) (before : List ℕ) (end : ℕ) (afte
   pub leaves : after ≡ overwrite before at new
 
 -- the paper's terms for the answers of `write_numbers`
-abbrev pub outcome_of_write : NumberWrite → Outcome ℕ
-outcome_of_write (End e) = gives e
-outcome_of_write NoRoom = refuses 13
+abbrev pub outcome_of_write : Result ℕ NoRoom → Outcome ℕ
+outcome_of_write (Ok e) = gives e
+outcome_of_write (Err _) = refuses 13

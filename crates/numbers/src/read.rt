@@ -2,35 +2,49 @@
 ghost use Rattle.std.specs.Prelude.{◌≡◌};
 ghost use Rattle.numbers.specs.SevenBit.{judge, number_at, outcome_of_read};
 
-use crate::{Group, NumberRead};
+// A number that stands at an offset of a byte slice, and the offset behind it.
+#[derive(Clone, Copy, Debug, PartialEq, Eq, Hash)]
+pub struct NumberAt {
+    pub value: u64,
+    pub end: usize,
+}
 
-// What a byte is as a group that `before` groups stand in front of.
-fn group(before: u32, byte: u8) -> Group
-    ensures { result ≡ judge before byte }
-{
-    if before == 9 {
-        if byte > 1 {
-            return Group::Bad;
+// Why no number stands there.
+#[derive(Clone, Copy, Debug, PartialEq, Eq, Hash)]
+pub enum NumberError {
+    MissingByte,
+    BadNumber,
+}
+
+// What a byte is as a group of a number: one with more groups behind it, the last one, or none that is allowed there.
+#[derive(Clone, Copy, Debug, PartialEq, Eq)]
+enum Group {
+    More,
+    Last,
+    Bad,
+}
+
+impl Group {
+    // What a byte is as a group that `before` groups stand in front of.
+    #[tactic(auto, unfolding(crate::specs::SevenBit::judge, crate::specs::Tests::pick))]
+    fn judge(before: u32, byte: u8) -> Group
+        ensures { result ≡ judge before byte }
+    {
+        if before == 9 {
+            if byte == 1 { Group::Last } else { Group::Bad }
+        } else if byte >= 128 {
+            Group::More
+        } else if before > 0 && byte == 0 {
+            Group::Bad
+        } else {
+            Group::Last
         }
-        if byte == 0 {
-            return Group::Bad;
-        }
-        return Group::Last;
     }
-    if byte >= 128 {
-        return Group::More;
-    }
-    if byte > 0 {
-        return Group::Last;
-    }
-    if before > 0 {
-        return Group::Bad;
-    }
-    Group::Last
 }
 
 // The number at an offset. `scale` is 128 to the power of the groups read so far, and `value` is what they say.
-pub fn read_number(bytes: &[u8], at: usize) -> NumberRead
+#[tactic(auto, using(crate::proofs::ReadLaws::reading_steps))]
+pub fn read_number(bytes: &[u8], at: usize) -> Result<NumberAt, NumberError>
     ensures { outcome_of_read result ≡ number_at bytes.now at }
 {
     let mut value: u64 = 0;
@@ -38,21 +52,20 @@ pub fn read_number(bytes: &[u8], at: usize) -> NumberRead
     let mut before: u32 = 0;
     let mut i = at;
     loop {
-        if i >= bytes.len() {
-            break NumberRead::MissingByte;
-        }
-        let byte = bytes[i];
+        let Some(&byte) = bytes.get(i) else {
+            break Err(NumberError::MissingByte);
+        };
         i += 1;
-        match group(before, byte) {
-            Group::Bad => break NumberRead::BadNumber,
+        match Group::judge(before, byte) {
+            Group::Bad => break Err(NumberError::BadNumber),
             Group::Last => {
-                break NumberRead::Value {
-                    value: value + scale * (byte as u64),
+                break Ok(NumberAt {
+                    value: value + scale * u64::from(byte),
                     end: i,
-                };
+                });
             }
             Group::More => {
-                value += scale * ((byte - 128) as u64);
+                value += scale * u64::from(byte - 128);
                 scale *= 128;
                 before += 1;
             }

@@ -1,19 +1,14 @@
 -- Laws of kept prices in words: what stands at a position, words moved down, and a new price behind the others. Assumes nothing.
-use Prim.Native.Nat.{ℕ, zero, suc, ◌+◌, ◌-◌, ◌*◌, ◌≤◌, ◌<◌}
-use native.Mathlib.Nat.{not-suc-le-zero}
+use Prim.Native.Nat.{ℕ, ◌+◌, ◌-◌, ◌*◌, ◌≤◌, ◌<◌}
 use native.Mathlib.Numerals.{add-one}
 use native.Mathlib.Omega.{arith}
 use mathlib.Core.Path.{◌≡◌, refl, sym, ap, ap₂, ◌∙◌}
-use mathlib.Core.Bool.{Bool, ◌||◌}
 use mathlib.Core.List.{List, [], ◌∷◌, ◌++◌}
-use lib.ListN.{length, get_or, set, drop, length-set, drop_of_length-le}
+use lib.ListN.{length, get_or, set, drop, length-set}
 use lib.Seq.{drop-cons, get_or-set_same, get_or-set_other}
-use Rattle.numbers.specs.Tests.{any}
-use Rattle.numbers.specs.Lists.{tabulate}
-use Rattle.numbers.proofs.TestLaws.{any_next, any_none}
-use Rattle.numbers.proofs.TabulateLaws.{by_order, length-tabulate, get_d_tabulate, tabulate_ext, drop-tabulate, tabulate_last}
+use Rattle.numbers.proofs.TabulateLaws.{length-tabulate, get_d_tabulate, tabulate_ext, drop-tabulate, tabulate_last}
 use Rattle.prices.specs.declared.TimedPrice.{TimedPrice}
-use Rattle.prices.specs.Pause.{most_kept, first_time, last_time_from, last_time}
+use Rattle.prices.specs.Pause.{most_kept}
 use Rattle.prices.specs.KeptWords.{kept_words, price_at, kept_in, MovedDown, KeepsNew}
 
 -- the prices in words
@@ -37,7 +32,7 @@ unfolding kept_in
 kept_same w w' at n h =
     tabulate_ext n (price_at w' at) (price_at w at) (λ i l. timed (h (at + 2 * i) (omega arith)) (h (at + 2 * i + 1) (omega arith)))
 
--- those from a position on: the one there and those behind it, or none
+-- those from a position on: the one there and those behind it
 
 pub kept_next : (w : List ℕ) (at n i : ℕ) → i < n → drop i (kept_in w at n) ≡ price_at w at i ∷ drop (i + 1) (kept_in w at n)
 unfolding kept_in
@@ -45,54 +40,6 @@ kept_next w at n i h =
     let l = kept_in w at n in
     let d = price_at w at i in
     drop-cons l i d (omega (arith, kept_length w at n)) ∙ ap₂ (λ (x : TimedPrice) (k : ℕ). x ∷ drop k l) (get_d_tabulate n (price_at w at) i d h) (sym (add-one i))
-
-pub kept_over : (w : List ℕ) (at n i : ℕ) → n ≤ i → drop i (kept_in w at n) ≡ []
-kept_over w at n i h = drop_of_length-le (kept_in w at n) {i = i} (omega (arith, kept_length w at n))
-
--- whether some price from a position on passes a test: the one there or one behind it; b is whether one in front of it does
-
-pub some_next : (f : TimedPrice → Bool) (w : List ℕ) (at n i : ℕ) (b : Bool) {b' t : Bool} → i < n → b' ≡ (b || t) → t ≡ f (price_at w at i) → (b' || any f (drop (i + 1) (kept_in w at n))) ≡ (b || any f (drop i (kept_in w at n)))
-some_next f w at n i b h e p = rw (kept_next w at n i h) (any_next b f (price_at w at i) (drop (i + 1) (kept_in w at n)) e p)
-
-pub some_over : (f : TimedPrice → Bool) (w : List ℕ) (at n i : ℕ) (b : Bool) → n ≤ i → (b || any f (drop i (kept_in w at n))) ≡ b
-some_over f w at n i b h = rw (kept_over w at n i h) (any_none f b)
-
--- the first and the last
-
-pub kept_first : (w : List ℕ) (at n : ℕ) → 0 < n → first_time (kept_in w at n) ≡ (price_at w at 0).time
-unfolding kept_in
-kept_first w at zero h = absurd (not-suc-le-zero h)
-kept_first w at (suc n) h = refl
-
-last_tabulate : (k n : ℕ) (f : ℕ → TimedPrice) → last_time_from k (tabulate (suc n) f) ≡ (f n).time
-last_tabulate k zero f = refl
-last_tabulate k (suc n) f = last_tabulate (f zero).time n (λ i. f (suc i))
-
-pub kept_last : (w : List ℕ) (at n : ℕ) → 0 < n → last_time (kept_in w at n) ≡ (price_at w at (n - 1)).time
-unfolding kept_in last_time
-kept_last w at zero h = absurd (not-suc-le-zero h)
-kept_last w at (suc n) h = last_tabulate 0 n (price_at w at) ∙ ap (λ (i : ℕ). (price_at w at i).time) (omega arith)
-
--- words moved down: by none, none yet, and one more
-
-pub moved_nowhere : (w : List ℕ) (at by n : ℕ) → by ≡ 0 → MovedDown w w at by n
-moved_nowhere w at by n e =
-    record { size = refl; below = λ j h. refl; moved = λ j h. ap (λ (i : ℕ). get_or w i 0) (omega arith); above = λ j h. refl }
-
-pub moved_none : (w : List ℕ) (at by : ℕ) → MovedDown w w at by 0
-moved_none w at by =
-    record { size = refl; below = λ j h. refl; moved = λ j h. absurd (not-suc-le-zero h); above = λ j h. refl }
-
-pub moved_more : (w₀ w : List ℕ) (at by k : ℕ) → MovedDown w₀ w at by k → at + k < length w → MovedDown w₀ (set w (at + k) (get_or w (at + (by + k)) 0)) at by (k + 1)
-moved_more w₀ w at by k c h =
-    let v = get_or w (at + (by + k)) 0 in
-    record {
-      size = length-set w (at + k) v ∙ c.size;
-      below = λ j l. get_or-set_other w (at + k) j v 0 (λ e. omega arith) ∙ c.below j l;
-      moved =
-          λ j l. by_order j k (λ b. get_or-set_other w (at + k) (at + j) v 0 (λ e. omega arith) ∙ c.moved j b) (λ b. let e : j ≡ k = omega arith in rw e (get_or-set_same w (at + k) v 0 h ∙ c.above (at + (by + k)) (omega arith)));
-      above = λ j l. get_or-set_other w (at + k) j v 0 (λ e. omega arith) ∙ c.above j (omega arith);
-    }
 
 -- the words after the two steps that keep a new price
 module _ (w w₁ : List ℕ) (at from n : ℕ) (new : TimedPrice) (f : from ≤ n) (m : n - from < most_kept) (fits : at + kept_words ≤ length w) (c : MovedDown w w₁ at (2 * from) (2 * (n - from))) where

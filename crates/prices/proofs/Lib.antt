@@ -1,3 +1,4 @@
+pub mod StepLaws
 -- Laws that the layers above cite.
 pub mod PriceLaws
 pub mod RestrictionLaws

@@ -1,14 +1,14 @@
 -- Laws of timed prices: those that a new time keeps, their order, the conditions of a venue record, and the direction of a price. Assumes nothing.
-use Prim.Native.Nat.{ℕ, suc, ◌+◌, ◌-◌, ◌*◌, ◌≤◌, ◌<◌, zero-le}
+use Prim.Native.Nat.{ℕ, zero, suc, ◌+◌, ◌-◌, ◌≤◌, ◌<◌, zero-le}
 use native.Mathlib.Omega.{arith}
 use mathlib.Core.Path.{◌≡◌, refl, sym, ap, ◌∙◌}
-use mathlib.Core.Bool.{Bool, true, false, not, ◌&&◌}
+use mathlib.Core.Bool.{Bool, true, false, ◌&&◌}
 use mathlib.Core.List.{List, [], ◌∷◌, ◌++◌}
-use lib.Dec.{T, leb, ltb, leb→le, le→leb}
-use lib.ListN.{length, length-append}
+use lib.Dec.{T, leb, leb→le, le→leb}
+use lib.ListN.{length, drop, length-append, drop_of_length-le}
 use borrow.Author.Tests.{le-leb, lt-leb}
 use Rattle.numbers.specs.Tests.{pick, every, any, All}
-use Rattle.numbers.proofs.TestLaws.{by_test, pick_yes, and_T, T_and, bool_ext, conj_T, T-conj, every_T, T-every, all_append, and_yes, and_no, and-false, and_last, not_yes, not_no, tests}
+use Rattle.numbers.proofs.TestLaws.{by_test, pick_yes, and_T, T_and, conj_T, T-conj, every_T, T-every, all_append, and-false, any_next, any_none, tests}
 use Rattle.prices.specs.declared.TimedPrice.{TimedPrice}
 use Rattle.prices.specs.Prices.{legal}
 use Rattle.prices.specs.Pause.{rolling_seconds, within, keeping, most_kept, is_fall, is_rise, some_fall, some_rise, direction, first_time, last_time_from, last_time, times_in_order, sound_kept}
@@ -109,7 +109,17 @@ within_all k t (x ∷ xs) h l =
 pub within_first : (t : ℕ) (x : TimedPrice) (xs : List TimedPrice) → T (times_in_order 0 (x ∷ xs)) → t - rolling_seconds ≤ x.time → within t (x ∷ xs) ≡ x ∷ xs
 within_first t x xs h l = within_yes t x xs l ∙ ap (λ (ys : List TimedPrice). x ∷ ys) (within_all x.time t xs (order_first 0 x xs h).1 l)
 
--- the last time
+-- the last time, which is that of a price behind which none stands
+
+last_at_from : (k i : ℕ) (x : TimedPrice) (xs ys : List TimedPrice) → drop i xs ≡ x ∷ ys → length xs ≤ i + 1 → last_time_from k xs ≡ x.time
+last_at_from k zero x xs [] e h = rw e refl
+last_at_from k zero x xs (y ∷ ys) e h = absurd (omega (arith, ap length e))
+last_at_from k (suc i) x [] ys e h = absurd (cc)
+last_at_from k (suc i) x (y ∷ xs) ys e h = last_at_from y.time i x xs ys e (omega arith)
+
+pub last_at : (i : ℕ) (x : TimedPrice) (xs ys : List TimedPrice) → drop i xs ≡ x ∷ ys → length xs ≤ i + 1 → last_time xs ≡ x.time
+unfolding last_time
+last_at i x xs ys e h = last_at_from 0 i x xs ys e h
 
 last_append_from : (k : ℕ) (xs : List TimedPrice) (x : TimedPrice) → last_time_from k (xs ++ x ∷ []) ≡ x.time
 last_append_from k [] x = refl
@@ -180,6 +190,10 @@ keeping_sound step t p xs h l e m =
     (order_append ys x (order_within t xs r.1.1.0) (omega (arith, e, last_within t xs r.1.1.0)))
     (omega (arith, last_append ys x, first_keeping t xs x refl))
 
+-- no price stands behind the last
+pub none_behind : (i : ℕ) (xs : List TimedPrice) → length xs ≤ i → drop i xs ≡ []
+none_behind i xs h = drop_of_length-le xs {i = i} h
+
 -- prices that are legal and in order behind a time: the first falls, isn't legal, or leaves it to the others
 
 abbrev pub in_order : ℕ → ℕ → List TimedPrice → Bool
@@ -201,37 +215,6 @@ pub in_order_none : (step k : ℕ) → in_order step k [] ≡ true
 unfolding every times_in_order
 in_order_none step k = refl
 
--- the conditions as the code tests them
-sound_is : (step : ℕ) (xs : List TimedPrice) → length xs ≤ most_kept → sound_kept step xs ≡ (in_order step 0 xs && leb (last_time xs - first_time xs) rolling_seconds)
-unfolding sound_kept
-sound_is step xs h = rw (le-leb (length xs) most_kept h) (regroup (every (legal_at step) xs) (times_in_order 0 xs) (leb (last_time xs - first_time xs) rolling_seconds))
-  where
-    regroup : (a b c : Bool) → (a && (b && (c && true))) ≡ ((a && b) && c)
-    regroup true true c = and_last c
-    regroup true false c = refl
-    regroup false b c = refl
-
--- the same where a call has answered whether they are in order
-pub order_refused : {t : Bool} (step : ℕ) (xs : List TimedPrice) → length xs ≤ most_kept → t ≡ in_order step 0 xs → not t ≡ true → false ≡ sound_kept step xs
-order_refused step xs h e f = sym (sound_is step xs h ∙ and_no _ (sym e ∙ not_yes _ f))
-
-pub order_taken : {t : Bool} (step : ℕ) (xs : List TimedPrice) → length xs ≤ most_kept → t ≡ in_order step 0 xs → not t ≡ false → leb (last_time xs - first_time xs) rolling_seconds ≡ sound_kept step xs
-order_taken step xs h e f = sym (sound_is step xs h ∙ and_yes _ (sym e ∙ not_no _ f))
-
-pub many_refused : (step : ℕ) (xs : List TimedPrice) → most_kept < length xs → false ≡ sound_kept step xs
-unfolding sound_kept
-many_refused step xs h = rw (lt-leb (length xs) most_kept h)
-
--- the direction by tests of each price, against the highest price without a fall and the highest with a rise
-
-pub without_fall_bound : (p r : ℕ) → 9 * r < 10 * p → 10 * p ≤ 9 * (r + 1) → (q : ℕ) → leb (10 * p) (9 * q) ≡ ltb r q
-without_fall_bound p r h k q =
-    bool_ext _ _ (λ t. le→leb (suc r) q (omega (tests, t))) (λ t. le→leb (10 * p) (9 * q) (omega (tests, t)))
-
-pub with_rise_bound : (p r : ℕ) → 11 * r ≤ 10 * p → 10 * p < 11 * (r + 1) → (q : ℕ) → leb (11 * q) (10 * p) ≡ leb q r
-with_rise_bound p r h k q =
-    bool_ext _ _ (λ t. le→leb q r (omega (tests, t))) (λ t. le→leb (11 * q) (10 * p) (omega (tests, t)))
-
 -- the direction, by what was found of falls and of rises
 pub direction_found : {d : ℕ} {f r : Bool} (p : ℕ) (xs : List TimedPrice) → d ≡ pick f 1 (pick r 2 0) → f ≡ any (is_fall p) xs → r ≡ any (is_rise p) xs → d ≡ direction p xs
 unfolding direction some_fall some_rise
@@ -240,3 +223,11 @@ direction_found p xs e ef er = rw (e, ef, er)
 pub direction_few : (p : ℕ) (xs : List TimedPrice) → direction p xs ≤ 2
 unfolding direction
 direction_few p xs = by_test (λ (d : ℕ). d ≤ 2) _ (λ a. omega arith) (λ a. by_test (λ (d : ℕ). d ≤ 2) _ (λ b. omega arith) (λ b. omega arith))
+
+-- the laws of each loop over kept prices, for the check to try
+
+pub ruleset order_walk = (in_order_falls, in_order_illegal, in_order_next, in_order_none, none_behind)
+
+pub ruleset within_walk = (within_none, within_no, within_first, order_rest, none_behind)
+
+pub ruleset direction_walk = (direction_found, any_next, any_none, none_behind)

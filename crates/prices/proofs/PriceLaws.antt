@@ -1,24 +1,16 @@
 -- Laws of prices, bids and the permitted price, for every step. Assumes nothing.
 use Prim.Native.Nat.{ℕ, suc, ◌+◌, ◌-◌, ◌*◌, ◌/◌, ◌%◌, ◌≤◌, ◌<◌, max}
-use native.Mathlib.Nat.{zero-mul, mul_comm, add-mul, mul_assoc, mul_right_comm, mul-le-mul_left, mul-le-mul_right, zero-mod, mod-lt, mod-eq_of_lt, mod-add-div, add-mod_right, add-mul-mod_self_right, le_of_dvd, dvd_of_mod-eq-zero, dvd-sub}
+use native.Mathlib.Nat.{zero-mul, mul_comm, add-mul, mul_assoc, mul_right_comm, mul-le-mul_right, mod-lt, mod-eq_of_lt, mod-add-div, add-mod_right, add-mul-mod_self_right, le_of_dvd, dvd_of_mod-eq-zero, dvd-sub}
 use native.Mathlib.Omega.{arith}
 use native.Mathlib.Decide.{dec_le, dec_lt}
 use mathlib.Core.Path.{◌≡◌, refl, sym, ap, ◌∙◌, subst}
-use mathlib.Core.Bool.{Bool, true, false, not, ◌&&◌, ◌||◌}
+use mathlib.Core.Bool.{Bool, false, not, ◌&&◌, ◌||◌}
 use mathlib.Core.Logic.{◌⊎◌, inl, inr}
 use lib.Dec.{T, leb, ltb, eqb, leb→le, le→leb, eqb→eq, not_T, T_not}
-use borrow.Author.Tests.{leb-true, leb-false}
 use Rattle.prices.specs.Prices.{highest, dollar_border, is_step, highest_bid, legal, is_bid, permitted, at_step, price_of, permitted_of}
 use Rattle.numbers.specs.Tests.{pick}
 use Rattle.numbers.specs.Answers.{Outcome, gives, refuses}
-use Rattle.numbers.proofs.TestLaws.{by_test, answered_T, answered_yes, answered_no, pick_yes, pick_no, not_yes, not_no, bool_ext, and_T, T_and, or_T, T-inl, T-inr, eq→T, tests}
-
--- what the answer of a call says that tests a bound
-pub within : {t : Bool} (p n : ℕ) → t ≡ leb p n → not t ≡ false → p ≤ n
-within p n e f = leb-true p n (sym e ∙ not_no _ f)
-
-pub beyond : {t : Bool} (p n : ℕ) → t ≡ leb p n → not t ≡ true → n < p
-beyond p n e f = leb-false p n (sym e ∙ not_yes _ f)
+use Rattle.numbers.proofs.TestLaws.{by_test, answered_no, pick_yes, pick_no, bool_ext, and_T, T_and, or_T, T-inl, T-inr, eq→T, tests}
 
 -- what the laws use of a step, and no law but this one looks at 50 and 100; a step that isn't a cent is half of one, for `share_of`
 
@@ -42,17 +34,9 @@ step_known step t = go (or_T (eqb step 50) (eqb step 100) t)
     go (inr x) =
         like 100 (eqb→eq step 100 x) (record { positive = omega arith; small = omega arith; border = refl; top = refl; half = λ n. absurd (n refl) })
 
--- what the answer of a call says that tests a step
-pub step_tested : {t : Bool} (step : ℕ) → t ≡ is_step step → not t ≡ false → T (is_step step)
-step_tested step e f = answered_T e (not_no _ f)
-
-pub step_taken : {A : Type 0} {t : Bool} (step : ℕ) (x : Outcome A) → t ≡ is_step step → not t ≡ false → x ≡ at_step step x
+pub step_refused : {A : Type 0} {t : Bool} (step : ℕ) (x : Outcome A) → t ≡ is_step step → t ≡ false → refuses 17 ≡ at_step step x
 unfolding at_step
-step_taken step x e f = answered_yes x _ e (not_no _ f)
-
-pub step_refused : {A : Type 0} {t : Bool} (step : ℕ) (x : Outcome A) → t ≡ is_step step → not t ≡ true → refuses 17 ≡ at_step step x
-unfolding at_step
-step_refused step x e f = answered_no x _ e (not_yes _ f)
+step_refused step x e f = answered_no x _ e f
 
 -- m being the share of the step in 2^32 + 4, a price up to the highest is a multiple of the step just where its product with m leaves less than m by 2^32
 module _ (step m p : ℕ) (e : m * step ≡ 4294967300) (s : Step step) (h : p ≤ highest) where
@@ -74,9 +58,6 @@ module _ (step m p : ℕ) (e : m * step ≡ 4294967300) (s : Step step) (h : p �
       let a : p * m ≡ rest * m + step * whole * m = subst (λ (x : ℕ). x * m ≡ rest * m + step * whole * m) parts (add-mul rest (step * whole) m) in
       let b : step * whole * m ≡ whole * 4294967300 = mul_right_comm step whole m ∙ ap (λ (x : ℕ). x * whole) (mul_comm step m ∙ e) ∙ mul_comm 4294967300 whole in
       omega (arith, a, b)
-
-  pub share_bound : m ≤ 4294967300
-  share_bound = omega (arith, e, mul-le-mul_left {m = 1} {n = step} m s.positive)
 
   -- the share is above four times the whole steps, and the rest below one step
   small : 4 * (whole + 1) < m
@@ -140,30 +121,6 @@ module _ (step : ℕ) where
       go : (p < dollar_border) ⊎ (p % step ≡ 0) → T (ltb p dollar_border || eqb (p % step) 0)
       go (inl x) = T-inl (ltb p dollar_border) (eqb (p % step) 0) (le→leb (suc p) dollar_border x)
       go (inr x) = T-inr (ltb p dollar_border) (eqb (p % step) 0) (eq→T x)
-
-  -- by the tests of whole steps
-
-  not_whole : (p : ℕ) → (p % step ≡ 0 → ⊥) → 1 ≤ p
-  not_whole p n = go (dec_le 1 p)
-    where
-      go : Dec (1 ≤ p) → 1 ≤ p
-      go (yes l) = l
-      go (no l) = let z : 0 ≡ p = omega arith in absurd (n (subst (λ (x : ℕ). x % step ≡ 0) z (zero-mod step)))
-
-  below : (p : ℕ) → (p % step ≡ 0 → ⊥) → (p < dollar_border) ⊎ (p % step ≡ 0) → T (ltb p dollar_border)
-  below p n (inl l) = le→leb (suc p) dollar_border l
-  below p n (inr e) = absurd (n e)
-
-  pub legal_beyond : (p : ℕ) → highest < p → false ≡ legal step p
-  legal_beyond p h = bool_ext _ _ (λ t. absurd t) (λ t. absurd (omega (arith, (legal_out p t).high)))
-
-  pub legal_whole : (p : ℕ) → p ≤ highest → p % step ≡ 0 → leb 1 p ≡ legal step p
-  legal_whole p h e =
-      bool_ext _ _ (λ t. legal_in p (record { low = leb→le 1 p t; high = h; on_step = inr e })) (λ t. le→leb 1 p (legal_out p t).low)
-
-  pub legal_other : (p : ℕ) → p ≤ highest → (p % step ≡ 0 → ⊥) → ltb p dollar_border ≡ legal step p
-  legal_other p h n =
-      bool_ext _ _ (λ t. legal_in p (record { low = not_whole p n; high = h; on_step = inl (leb→le (suc p) dollar_border t) })) (λ t. below p n (legal_out p t).on_step)
 
   -- what taking a number as a price says of it, by the three answers
   price_by : (P : Outcome ℕ → Type 0) (n : ℕ) → (T (is_step step) → T (legal step n) → P (gives n)) → (T (is_step step) → T (not (legal step n)) → P (refuses 3)) → (T (not (is_step step)) → P (refuses 17)) → P (price_of step n)
@@ -231,26 +188,6 @@ module _ (step : ℕ) where
       go : (b ≡ 0) ⊎ (Legal b × (b ≤ highest_bid step)) → b ≤ highest_bid step
       go (inl x) = omega arith
       go (inr x) = x.1
-
-  pub bid_beyond : (b : ℕ) → highest < b → false ≡ is_bid step b
-  bid_beyond b h = bool_ext _ _ (λ t. absurd t) (λ t. absurd (omega (arith, bid_highest b t)))
-
-  pub bid_whole : (b : ℕ) → b % step ≡ 0 → leb b (highest_bid step) ≡ is_bid step b
-  bid_whole b e = bool_ext _ _ (λ t. bid_in b (go (leb→le b (highest_bid step) t) (dec_le 1 b))) (λ t. le→leb b (highest_bid step) (bid_highest b t))
-    where
-      go : b ≤ highest_bid step → Dec (1 ≤ b) → (b ≡ 0) ⊎ (Legal b × (b ≤ highest_bid step))
-      go h (yes l) = inr (record { low = l; high = omega arith; on_step = inr e }, h)
-      go h (no l) = inl (omega arith)
-
-  pub bid_other : T (is_step step) → (b : ℕ) → (b % step ≡ 0 → ⊥) → ltb b dollar_border ≡ is_bid step b
-  bid_other is b n = bool_ext _ _ (λ t. bid_in b (inr (go (leb→le (suc b) dollar_border t)))) (λ t. out (bid_out b t))
-    where
-      go : b < dollar_border → Legal b × (b ≤ highest_bid step)
-      go l = (record { low = not_whole b n; high = omega arith; on_step = inl l }, omega (arith, (step_known step is).small))
-
-      out : (b ≡ 0) ⊎ (Legal b × (b ≤ highest_bid step)) → T (ltb b dollar_border)
-      out (inl z) = le→leb (suc b) dollar_border (omega arith)
-      out (inr l) = below b n l.0.on_step
 
   pub no_bid : T (is_bid step 0)
   unfolding is_bid

@@ -1,7 +1,10 @@
 pub mod Prices
+pub mod Steps
 pub mod Restriction
 pub mod Watch
 pub mod Pause
 pub mod KeptWords
 pub mod HalfCents
 pub mod FallingAgain
+pub mod PriceErrors
+pub mod Directions

@@ -1,11 +1,11 @@
 -- Prices (17 CFR 242.612): document 01, "Prices", and document 02, No. 2. A price is a number of ten-thousandths of a dollar. Assumes nothing.
-use Rattle.std.specs.Prelude.{ℕ, ◌+◌, ◌-◌, ◌%◌, Bool, ◌&&◌, ◌||◌, leb, ltb, eqb}
+use Rattle.std.specs.Prelude.{ℕ, ◌+◌, ◌-◌, ◌%◌, Bool, ◌&&◌, ◌||◌, leb, ltb, eqb, Result, Ok, Err}
 use Rattle.numbers.specs.Tests.{pick}
 use Rattle.numbers.specs.Answers.{Outcome, gives, refuses}
-use Rattle.prices.specs.declared.PriceAnswer.{PriceAnswer}
-use Rattle.prices.specs.declared.PriceAnswer.TheVariants.{Legal, NotLegal, NotStep as no_step}
-use Rattle.prices.specs.declared.PermittedAnswer.{PermittedAnswer}
-use Rattle.prices.specs.declared.PermittedAnswer.TheVariants.{Permitted, NotBid, NotStep}
+use Rattle.prices.specs.declared.Price.{Price}
+use Rattle.prices.specs.declared.PriceError.{PriceError}
+use Rattle.prices.specs.declared.BidError.{BidError}
+use Rattle.prices.specs.PriceErrors.{price_error_number, bid_error_number}
 
 -- "The price kind carries its highest value and its dollar border"
 abbrev pub highest : ℕ
@@ -46,12 +46,10 @@ unfoldable pub permitted_of : ℕ → ℕ → Outcome ℕ
 permitted_of step b = at_step step (pick (is_bid step b) (gives (permitted step b)) (refuses 3))
 
 -- the paper's terms for these answers: a price, or 3, or 17
-abbrev pub outcome_of_price : PriceAnswer → Outcome ℕ
-outcome_of_price (Legal p) = gives p.value
-outcome_of_price NotLegal = refuses 3
-outcome_of_price no_step = refuses 17
+abbrev pub outcome_of_price : Result Price PriceError → Outcome ℕ
+outcome_of_price (Ok p) = gives p.value
+outcome_of_price (Err e) = refuses (price_error_number e)
 
-abbrev pub outcome_of_permitted : PermittedAnswer → Outcome ℕ
-outcome_of_permitted (Permitted p) = gives p.value
-outcome_of_permitted NotBid = refuses 3
-outcome_of_permitted NotStep = refuses 17
+abbrev pub outcome_of_permitted : Result Price BidError → Outcome ℕ
+outcome_of_permitted (Ok p) = gives p.value
+outcome_of_permitted (Err e) = refuses (bid_error_number e)

@@ -1,10 +1,10 @@
 -- The host's own watch of a close: document 01, "Watch", and document 02, No. 2 and No. 6. Assumes nothing.
-use Rattle.std.specs.Prelude.{ℕ, ◌&&◌}
+use Rattle.std.specs.Prelude.{ℕ, ◌&&◌, Result, Ok, Err}
 use Rattle.numbers.specs.Tests.{pick}
 use Rattle.numbers.specs.Answers.{Outcome, gives, refuses}
 use Rattle.prices.specs.declared.Watch.{Watch}
-use Rattle.prices.specs.declared.WatchAnswer.{WatchAnswer}
-use Rattle.prices.specs.declared.WatchAnswer.TheVariants.{Updated, NotLegal, NotStep}
+use Rattle.prices.specs.declared.PriceError.{PriceError}
+use Rattle.prices.specs.PriceErrors.{price_error_number}
 use Rattle.prices.specs.Prices.{is_step, legal, at_step}
 use Rattle.prices.specs.Restriction.{phase_after_tape}
 
@@ -22,7 +22,6 @@ unfoldable pub watch_outcome : ℕ → ℕ → Outcome (Unit {0})
 watch_outcome step p = at_step step (pick (legal step p) (gives tt) (refuses 3))
 
 -- the paper's terms for an answer
-abbrev pub outcome_of_watch : WatchAnswer → Outcome (Unit {0})
-outcome_of_watch Updated = gives tt
-outcome_of_watch NotLegal = refuses 3
-outcome_of_watch NotStep = refuses 17
+abbrev pub outcome_of_watch : Result (Unit {0}) PriceError → Outcome (Unit {0})
+outcome_of_watch (Ok _) = gives tt
+outcome_of_watch (Err e) = refuses (price_error_number e)

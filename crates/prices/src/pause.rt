@@ -1,13 +1,16 @@
 // The five-minute pause watch: timed prices kept in lent words, two words each, time and price, from an index on.
-ghost use Rattle.std.specs.Prelude.{◌≡◌, ℕ, ◌+◌, ◌-◌, ◌*◌, ◌<◌, ◌≤◌, ◌&&◌, ◌||◌, T, leb, ltb, length, drop};
+ghost use Rattle.std.specs.Prelude.{◌≡◌, ℕ, ◌+◌, ◌-◌, ◌*◌, ◌<◌, ◌≤◌, ◌&&◌, ◌||◌, ◌∷◌, T, leb, ltb, length, drop};
 ghost use Rattle.numbers.specs.Tests.{pick, every};
 ghost use Rattle.prices.specs.declared.TimedPrice.{TimedPrice};
-ghost use Rattle.prices.specs.Prices.{highest, is_step, legal};
+ghost use Rattle.prices.specs.Prices.{highest, legal};
+ghost use Rattle.prices.specs.Steps.{step_value};
+ghost use Rattle.prices.specs.Directions.{direction_number};
 ghost use Rattle.prices.specs.Pause;
 ghost use Rattle.prices.specs.Pause.{rolling_seconds, most_kept, within, first_time, last_time, times_in_order, sound_kept};
-ghost use Rattle.prices.specs.KeptWords.{kept_words, price_at, kept_in, MovedDown, KeepsNew};
+ghost use Rattle.prices.specs.KeptWords.{kept_words, kept_in, MovedDown, KeepsNew};
 
-use crate::{TimedPrice, increments};
+use crate::{Direction, Step, TimedPrice, increments};
+use std::marker::Model;
 
 // The most prices that are kept, and their words.
 pub const MOST_KEPT: usize = 512;
@@ -16,112 +19,152 @@ pub const KEPT_WORDS: usize = 2 * MOST_KEPT;
 
 const ROLLING_SECONDS: u32 = 300;
 
-const FALL: u32 = 1;
-
-const RISE: u32 = 2;
-
-// The time and the price at position i.
-fn time_at(w: &[u32], at: usize, i: usize) -> u32
-    requires { (at + kept_words ≤ length w.now) × (i < most_kept) }
-    ensures { result ≡ (price_at w.now at i).time }
-{
-    w[at + 2 * i]
+// Kept prices: those of lent words from an index on, as many as are counted, where there is room for 512. A count of 32 bits tells the compiler that no index
+// wraps, so that it takes several prices at a time.
+#[derive(Drop)]
+pub struct Kept<'a> {
+    words: &'a [u32],
+    at: usize,
+    count: u32,
 }
 
-fn price_at(w: &[u32], at: usize, i: usize) -> u32
-    requires { (at + kept_words ≤ length w.now) × (i < most_kept) }
-    ensures { result ≡ (price_at w.now at i).price }
-{
-    w[at + 2 * i + 1]
+impl<'a> Model for Kept<'a> {
+    ghost use Rattle.std.specs.Prelude.{◌+◌, ◌≤◌, List, length};
+    ghost use Rattle.prices.specs.declared.TimedPrice.{TimedPrice};
+    ghost use Rattle.prices.specs.Pause.{most_kept};
+    ghost use Rattle.prices.specs.KeptWords.{kept_words, kept_in};
+
+    ghost Value = { List TimedPrice };
+
+    ghost view = { λ k. kept_in k.words.now k.at k.count };
+
+    ghost invariant = { λ k. (k.at + kept_words ≤ length k.words.now) × (k.count ≤ most_kept) };
 }
 
-// Whether each of n prices is legal and no time is before the one in front of it.
-fn legal_in_order(w: &[u32], at: usize, n: usize, step: u32) -> bool
-    requires { (at + kept_words ≤ length w.now) × (n ≤ most_kept) × T (is_step step) }
-    ensures { result ≡ (every (λ (x : TimedPrice). legal step x.price) (kept_in w.now at n) && times_in_order 0 (kept_in w.now at n)) }
-{
-    let mut before = 0;
-    let mut i = 0;
-    while i < n {
-        let time = time_at(w, at, i);
-        if time < before {
-            return false;
+impl Kept<'_> {
+    pub fn new(words: &[u32], at: usize, count: u32) -> Kept
+        requires { (at + kept_words ≤ length words.now) × (count ≤ most_kept) }
+        ensures { result ≡ kept_in words.now at count }
+    {
+        Kept { words, at, count }
+    }
+
+    // How many there are.
+    #[tactic(auto, using(crate::proofs::KeptWordLaws::kept_length))]
+    pub fn len(&self) -> usize
+        ensures { (result ≡ length self.now) × (result ≤ most_kept) }
+    {
+        self.count as usize
+    }
+
+    // The price at a position.
+    #[tactic(auto, using(crate::proofs::KeptWordLaws::kept_length, crate::proofs::KeptWordLaws::kept_next))]
+    fn price(&self, i: usize) -> TimedPrice
+        requires { i < length self.now }
+        ensures { drop i self.now ≡ result ∷ drop (i + 1) self.now }
+    {
+        let word = self.at + 2 * i;
+        TimedPrice {
+            time: self.words[word],
+            price: self.words[word + 1],
         }
-        if !increments::is_legal(step, price_at(w, at, i)) {
-            return false;
+    }
+
+    // The time of the last, 0 where there is none.
+    #[tactic(auto, unfolding(crate::specs::Pause::last_time))]
+    pub fn last_time(&self) -> u32
+        ensures { result ≡ last_time self.now }
+    {
+        let n = self.len();
+        if n == 0 { 0 } else { self.price(n - 1).time }
+    }
+
+    // Whether each is legal and no time is before the one in front of it.
+    #[tactic(auto, using(crate::proofs::PauseLaws::order_walk))]
+    fn is_legal_in_order(&self, step: Step) -> bool
+        ensures { result ≡ (every (λ (x : TimedPrice). legal (step_value step) x.price) self.now && times_in_order 0 self.now) }
+    {
+        let mut before = 0;
+        for i in 0..self.len() {
+            let x = self.price(i);
+            if x.time < before {
+                return false;
+            }
+            if !increments::is_legal(step, x.price) {
+                return false;
+            }
+            before = x.time;
         }
-        before = time;
-        i += 1;
+        true
     }
-    true
-}
 
-// The time of the last of n prices, 0 where there is none.
-pub fn last_time(w: &[u32], at: usize, n: usize) -> u32
-    requires { (at + kept_words ≤ length w.now) × (n ≤ most_kept) }
-    ensures { result ≡ last_time (kept_in w.now at n) }
-{
-    if n == 0 {
-        return 0;
+    // Whether they span at most 300 seconds.
+    #[tactic(auto, unfolding(crate::specs::Pause::last_time))]
+    fn is_span_sound(&self) -> bool
+        ensures { result ≡ leb (last_time self.now - first_time self.now) rolling_seconds }
+    {
+        if self.len() == 0 {
+            return true;
+        }
+        let first = self.price(0).time;
+        let last = self.last_time();
+        last.saturating_sub(first) <= ROLLING_SECONDS
     }
-    time_at(w, at, n - 1)
-}
 
-// Whether n prices span at most 300 seconds.
-fn span_sound(w: &[u32], at: usize, n: usize) -> bool
-    requires { (at + kept_words ≤ length w.now) × (n ≤ most_kept) }
-    ensures { result ≡ leb (last_time (kept_in w.now at n) - first_time (kept_in w.now at n)) rolling_seconds }
-{
-    if n == 0 {
-        return true;
+    // The position of the first price that a new time keeps, the count where it keeps none.
+    #[tactic(auto, using(crate::proofs::PauseLaws::within_walk))]
+    pub fn first_within(&self, time: u32) -> usize
+        requires { T (times_in_order 0 self.now) }
+        ensures { (result ≤ length self.now) × (within time self.now ≡ drop result self.now) }
+    {
+        let least = less_rolling(time);
+        let n = self.len();
+        for i in 0..n {
+            if self.price(i).time >= least {
+                return i;
+            }
+        }
+        n
     }
-    let first = time_at(w, at, 0);
-    let last = last_time(w, at, n);
-    if last < first {
-        return true;
+
+    // The direction of a new price against those from a position on: a fall, else a rise, if there is either. No price ends the look, so that the compiler
+    // takes several at a time.
+    #[tactic(auto, using(crate::proofs::PauseLaws::direction_walk))]
+    pub fn direction(&self, from: usize, price: u32) -> Option<Direction>
+        requires { (from ≤ length self.now) × (0 < price) × (price ≤ highest) }
+        ensures { direction_number result ≡ Pause.direction price (drop from self.now) }
+    {
+        let without_fall = highest_without_fall(price);
+        let with_rise = highest_with_rise(price);
+        let mut falls = false;
+        let mut rises = false;
+        for i in from..self.len() {
+            let earlier = self.price(i).price;
+            falls |= earlier > without_fall;
+            rises |= earlier <= with_rise;
+        }
+        direction_of(falls, rises)
     }
-    last - first <= ROLLING_SECONDS
 }
 
 // Whether a count of kept prices, any number, and the prices that it counts break no condition of a venue record.
-pub fn kept_sound(w: &[u32], at: usize, count: u32, step: u32) -> bool
-    requires { (at + kept_words ≤ length w.now) × T (is_step step) }
-    ensures { result ≡ sound_kept step (kept_in w.now at count) }
+#[tactic(auto, using(crate::proofs::KeptWordLaws::kept_length), unfolding(crate::specs::Pause::sound_kept))]
+pub fn kept_sound(w: &[u32], at: usize, count: u32, step: Step) -> bool
+    requires { at + kept_words ≤ length w.now }
+    ensures { result ≡ sound_kept (step_value step) (kept_in w.now at count) }
 {
-    let n = count as usize;
-    if n > MOST_KEPT {
+    if count as usize > MOST_KEPT {
         return false;
     }
-    if !legal_in_order(w, at, n, step) {
-        return false;
-    }
-    span_sound(w, at, n)
+    let kept = Kept::new(w, at, count);
+    kept.is_legal_in_order(step) && kept.is_span_sound()
 }
 
 // The new time less 300, 0 where that is below 0.
 fn less_rolling(time: u32) -> u32
     ensures { result ≡ time - rolling_seconds }
 {
-    if time < ROLLING_SECONDS {
-        return 0;
-    }
-    time - ROLLING_SECONDS
-}
-
-// The position of the first of n prices that a new time keeps, n where it keeps none.
-pub fn first_within(w: &[u32], at: usize, n: usize, time: u32) -> usize
-    requires { (at + kept_words ≤ length w.now) × (n ≤ most_kept) × T (times_in_order 0 (kept_in w.now at n)) }
-    ensures { (result ≤ n) × (within time (kept_in w.now at n) ≡ drop result (kept_in w.now at n)) }
-{
-    let least = less_rolling(time);
-    let mut i = 0;
-    while i < n {
-        if time_at(w, at, i) >= least {
-            return i;
-        }
-        i += 1;
-    }
-    n
+    time.saturating_sub(ROLLING_SECONDS)
 }
 
 // The highest earlier price of which a new one is no fall, and the highest of which it is a rise: 10 × p ≤ 9 × q just where q is above the one, and
@@ -140,61 +183,25 @@ fn highest_with_rise(price: u32) -> u32
     10 * price / 11
 }
 
-// Whether one of two tests holds.
-fn either(a: bool, b: bool) -> bool
-    ensures { result ≡ (a || b) }
-{
-    if a {
-        return true;
-    }
-    b
-}
-
 // The direction by whether there is a fall, and whether there is a rise.
-fn direction_of(falls: bool, rises: bool) -> u32
-    ensures { result ≡ pick falls 1 (pick rises 2 0) }
+#[tactic(auto, unfolding(numbers::specs::Tests::pick))]
+fn direction_of(falls: bool, rises: bool) -> Option<Direction>
+    ensures { direction_number result ≡ pick falls 1 (pick rises 2 0) }
 {
-    if falls {
-        return FALL;
+    match (falls, rises) {
+        (true, _) => Some(Direction::Fall),
+        (false, true) => Some(Direction::Rise),
+        (false, false) => None,
     }
-    if rises {
-        return RISE;
-    }
-    0
 }
 
-// The direction of a new price against those of n prices from a position on: 1 for a fall, else 2 for a rise, 0 for neither. No price ends the look, so that
-// the compiler takes several at a time.
-pub fn direction(w: &[u32], at: usize, from: usize, n: usize, price: u32) -> u32
-    requires { (at + kept_words ≤ length w.now) × (from ≤ n) × (n ≤ most_kept) × (0 < price) × (price ≤ highest) }
-    ensures { result ≡ Pause.direction price (drop from (kept_in w.now at n)) }
-{
-    let without_fall = highest_without_fall(price);
-    let with_rise = highest_with_rise(price);
-    let mut falls = false;
-    let mut rises = false;
-    let mut i = from;
-    while i < n {
-        let earlier = price_at(w, at, i);
-        falls = either(falls, earlier > without_fall);
-        rises = either(rises, earlier <= with_rise);
-        i += 1;
-    }
-    direction_of(falls, rises)
-}
-
-// Moves the n words from index at + by on down to index at; by 0 words nothing is to be moved.
+// Moves the n words from index at + by on down to index at. By 0 words nothing is to be moved, and words copied onto themselves would be copied one by one.
 fn shift_down(w: &mut [u32], at: usize, by: usize, n: usize)
     requires { at + (by + n) ≤ length w.old }
     ensures { MovedDown w.old w.new at by n }
 {
-    if by == 0 {
-        return;
-    }
-    let mut j = 0;
-    while j < n {
-        w[at + j] = w[at + (by + j)];
-        j += 1;
+    if by > 0 {
+        w.copy_within(at + by..at + (by + n), at);
     }
 }
 

@@ -1,5 +1,5 @@
 -- Reading the fields of a record one by one: what each step says of the definitions. Assumes nothing.
-use Prim.Native.Nat.{ℕ, suc, ◌+◌, ◌-◌, ◌≤◌, ◌<◌}
+use Prim.Native.Nat.{ℕ, zero, suc, ◌+◌, ◌-◌, ◌≤◌, ◌<◌}
 use native.Mathlib.Omega.{arith}
 use native.Mathlib.Numerals.{add-one}
 use mathlib.Core.Path.{◌≡◌, refl, sym, ap, ◌∙◌}
@@ -8,15 +8,20 @@ use mathlib.Core.List.{List, [], ◌∷◌, ◌++◌}
 use lib.Dec.{leb}
 use lib.ListN.{length, get_or, take, set, length-set}
 use lib.Seq.{take-suc-set, take_all}
-use borrow.Author.Tests.{le-leb, lt-leb}
+use borrow.Author.Tests.{le-leb, lt-leb, ne_eqb}
 use Rattle.numbers.specs.Tests.{pick, All}
 use Rattle.numbers.specs.Answers.{Outcome, gives, refuses, Read}
 use Rattle.numbers.specs.SevenBit.{IsByte, number_at}
 use Rattle.numbers.proofs.ReadLaws.{number, all_bytes}
 use Rattle.engine.specs.declared.Event.{Event}
-use Rattle.engine.specs.rules.Records.{record_numbers, highest_field, on_field, by_field, fields_at, record_at}
+use Rattle.std.specs.Prelude.{◌≢◌, Result, Ok, Err}
+use Rattle.std.proofs.Math.Option.{none}
+use Rattle.engine.specs.rules.Records.{record_numbers, highest_field, on_field, by_field, fields_at, record_fields, event_of, record_at}
 use Rattle.engine.specs.claims.RoundTrips.{Word}
-use Rattle.engine.proofs.bytes.RecordLaws.{fields, given, not_given, record_unique}
+use Rattle.records.specs.declared.ReadRefusal.{ReadRefusal}
+use Rattle.records.specs.declared.EventAt.{EventAt}
+use Rattle.records.specs.RecordAnswers.{EventFrom, MadeFrom, event_from, outcome_of_record_read}
+use Rattle.engine.proofs.bytes.RecordLaws.{fields, given, not_given, record_unique, record_positive}
 
 -- a field by its number
 
@@ -86,8 +91,8 @@ in_front_all : (xs : List ℕ) (e : ℕ) → in_front xs (fields [] e) ≡ field
 in_front_all [] e = refl
 in_front_all (x ∷ xs) e = ap (on_field x) (in_front_all xs e)
 
-pub none_so_far : (bytes : List ℕ) (at : ℕ) (xs : List ℕ) → FieldsSoFar bytes at (length xs) xs 0 at
-none_so_far bytes at xs = record { long = refl; few = omega arith; rest = ap (λ m. fields_at m bytes at) (omega arith) }
+pub none_so_far : (bytes : List ℕ) (at n : ℕ) (xs : List ℕ) → length xs ≡ n → FieldsSoFar bytes at n xs 0 at
+none_so_far bytes at n xs long = record { long = long; few = omega arith; rest = ap (λ m. fields_at m bytes at) (omega arith) }
 
 module _ {bytes xs : List ℕ} {at n i end : ℕ} (h : FieldsSoFar bytes at n xs i end) where
   pub one_refused : {k : ℕ} → i < n → fields_at 1 bytes end ≡ refuses k → fields_at n bytes at ≡ refuses k
@@ -110,7 +115,31 @@ module _ {bytes xs : List ℕ} {at n i end : ℕ} (h : FieldsSoFar bytes at n xs
       let z : n - i ≡ 0 = omega arith in
       h.rest ∙ ap (λ j. in_front (take i xs) (fields_at j bytes end)) z ∙ in_front_all (take i xs) end ∙ ap (λ l. fields l end) (take_all i xs (omega (arith, h.long)))
 
+-- The event of the fields that were read
+
+pub unknown_kind : (k : ℕ) → (k ≢ 0 → 7 < k) → record_fields k ≡ none
+unfolding record_fields pick
+unknown_kind zero h = refl
+unknown_kind (suc i) h =
+    rw (ne_eqb (suc i) 1 (λ e. omega arith), ne_eqb (suc i) 6 (λ e. omega arith), ne_eqb (suc i) 7 (λ e. omega arith), le-leb 2 (suc i) (omega arith), lt-leb (suc i) 5 (omega arith))
+
+-- of a kind of one field
+pub single_read : {Made : ℕ → Event → Type 0} {o : Outcome (Read (List ℕ))} {r : Result EventAt ReadRefusal} (k : ℕ) → EventFrom Made o r → ((xs : List ℕ) (e : Event) → Made (get_or xs 0 0) e → e ≡ event_of (record { kind = k; fields = xs })) → outcome_of_record_read r ≡ event_from k o
+single_read {Made} {o} {r} k h made = go o r h.made
+  where
+    go : (o : Outcome (Read (List ℕ))) (r : Result EventAt ReadRefusal) → MadeFrom Made o r → outcome_of_record_read r ≡ event_from k o
+    go (gives y) (Ok x) h = rw (made y.value x.event h.0, h.1)
+    go (gives y) (Err e) h = absurd h
+    go (refuses n) (Ok x) h = absurd h
+    go (refuses n) (Err e) h = ap refuses h
+
 -- the fields of an event that was read are 32-bit numbers
 
 pub read_words : (bytes : List ℕ) (at : ℕ) {r : Read Event} → ((i : ℕ) → IsByte (get_or bytes i 0)) → record_at bytes at ≡ gives r → All Word (record_numbers r.value)
 read_words bytes at {r} h e = (record_unique bytes at r (all_bytes bytes h) e).words
+
+-- a record ends behind where it begins, within the bytes
+pub read_behind : (bytes : List ℕ) (at : ℕ) {r : Read Event} → ((i : ℕ) → IsByte (get_or bytes i 0)) → record_at bytes at ≡ gives r → (at < r.end) × (r.end ≤ length bytes)
+read_behind bytes at {r} h e =
+    let s = (record_unique bytes at r (all_bytes bytes h) e).stands in
+    (omega (arith, s.ends, record_positive r.value), s.inside)

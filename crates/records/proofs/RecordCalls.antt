@@ -11,23 +11,24 @@ use Rattle.numbers.specs.SevenBit.{Stands, overwrite, Written}
 use Rattle.numbers.proofs.PlaceLaws.{stands_same}
 use Rattle.numbers.proofs.WriteLaws.{written_stands}
 use Rattle.engine.specs.declared.Event.{Event}
-use Rattle.records.specs.declared.RecordRead.{RecordRead}
-use Rattle.records.specs.declared.RecordRead.TheVariants.{Record, Refused}
-use Rattle.records.specs.declared.RecordWrite.{RecordWrite}
-use Rattle.records.specs.declared.RecordWrite.TheVariants.{End, NoRoom}
-use Rattle.records.specs.RecordAnswers.{outcome_of_record_read, outcome_of_record_write}
+use Rattle.std.specs.Prelude.{Result, Ok, Err}
+use Rattle.numbers.specs.SevenBit.{outcome_of_write}
+use Rattle.numbers.specs.declared.write.NoRoom.{NoRoom}
+use Rattle.records.specs.declared.ReadRefusal.{ReadRefusal}
+use Rattle.records.specs.declared.EventAt.{EventAt}
+use Rattle.records.specs.RecordAnswers.{outcome_of_record_read}
 use Rattle.records.specs.RecordTrips.{WrittenReadsBack, ReadIsWritten}
 use Rattle.engine.proofs.bytes.RecordLaws.{given, not_given, record_read_back, record_unique}
 
 -- an answer by its outcome
 
-record_answer : {r : Read Event} (answer : RecordRead) → outcome_of_record_read answer ≡ gives r → answer ≡ Record r.value r.end
-record_answer (Record event end) e = ap (λ (r : Read Event). Record r.value r.end) (given e)
-record_answer (Refused n) e = absurd (not_given e)
+record_answer : {r : Read Event} (answer : Result EventAt ReadRefusal) → outcome_of_record_read answer ≡ gives r → answer ≡ Ok (record { event = r.value; end = r.end })
+record_answer (Ok x) e = ap (λ (r : Read Event). Ok (record { event = r.value; end = r.end })) (given e)
+record_answer (Err n) e = absurd (not_given e)
 
-end_answer : {end : ℕ} (answer : RecordWrite) → outcome_of_record_write answer ≡ gives end → answer ≡ End end
-end_answer (End e) h = ap End (given h)
-end_answer NoRoom h = absurd (not_given h)
+end_answer : {end : ℕ} (answer : Result ℕ NoRoom) → outcome_of_write answer ≡ gives end → answer ≡ Ok end
+end_answer (Ok e) h = ap Ok (given h)
+end_answer (Err _) h = absurd (not_given h)
 
 pub written_reads_back : WrittenReadsBack
 written_reads_back event before after at end answer words w r =

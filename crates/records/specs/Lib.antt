@@ -1,2 +1,3 @@
+pub mod ReadRefusals
 pub mod RecordAnswers
 pub mod RecordTrips

@@ -3,10 +3,15 @@
 
 pub mod record;
 
+ghost use Rattle.std.specs.Prelude.{◌≡◌};
+ghost use Rattle.numbers.specs.SevenBit.{number_of_error};
+ghost use Rattle.records.specs.ReadRefusals.{read_refusal_number};
+
 use engine::Event;
+use numbers::NumberError;
 
 // Why no event record stands at an offset: a byte is missing, a number is bad, the kind is none, or a field is above 32 bits.
-#[derive(Clone, Copy)]
+#[derive(Clone, Copy, Debug, PartialEq, Eq, Hash)]
 pub enum ReadRefusal {
     MissingByte,
     BadNumber,
@@ -14,30 +19,42 @@ pub enum ReadRefusal {
     FieldTooLarge,
 }
 
-// One field of an event record with the offset behind it, or the refusal.
-#[derive(Clone, Copy)]
-pub enum FieldRead {
-    Field { value: u32, end: usize },
-    Refused(ReadRefusal),
+// Where no number stands, no record does: the refusal has the same number.
+impl From<NumberError> for ReadRefusal {
+    ghost from_gives = { λ e r. read_refusal_number r ≡ number_of_error e };
+
+    fn from(e: NumberError) -> ReadRefusal {
+        match e {
+            NumberError::MissingByte => ReadRefusal::MissingByte,
+            NumberError::BadNumber => ReadRefusal::BadNumber,
+        }
+    }
 }
 
-// The offset behind the fields that were read, or the refusal.
-#[derive(Clone, Copy)]
-pub enum FieldsRead {
-    End(usize),
-    Refused(ReadRefusal),
+// Document 01's numbers of the refusals.
+impl From<ReadRefusal> for u32 {
+    ghost from_gives = { λ refusal number. number ≡ read_refusal_number refusal };
+
+    fn from(refusal: ReadRefusal) -> u32 {
+        match refusal {
+            ReadRefusal::MissingByte => 9,
+            ReadRefusal::BadNumber => 10,
+            ReadRefusal::UnknownKind => 11,
+            ReadRefusal::FieldTooLarge => 12,
+        }
+    }
 }
 
-// What stands at an offset of a byte slice: an event with the offset behind its record, or the refusal.
-#[derive(Clone, Copy)]
-pub enum RecordRead {
-    Record { event: Event, end: usize },
-    Refused(ReadRefusal),
+// One field of an event record with the offset behind it.
+#[derive(Clone, Copy, Debug, PartialEq, Eq)]
+pub struct FieldAt {
+    pub value: u32,
+    pub end: usize,
 }
 
-// What writing an event record answers: the offset behind it, or that it doesn't fit.
-#[derive(Clone, Copy)]
-pub enum RecordWrite {
-    End(usize),
-    NoRoom,
+// An event that stands at an offset of a byte slice, with the offset behind its record.
+#[derive(Clone, Copy, Debug, PartialEq, Eq)]
+pub struct EventAt {
+    pub event: Event,
+    pub end: usize,
 }

@@ -15,10 +15,7 @@ use std::{fs, io, str};
 
 // A name as text, which a path of std is.
 fn text_of(name: &[u8]) -> io::Result<&str> {
-    match str::from_utf8(name) {
-        Ok(text) => Ok(text),
-        Err(_) => Err(io::Error::from(io::ErrorKind::InvalidFilename)),
-    }
+    str::from_utf8(name).map_err(|_| io::Error::from(io::ErrorKind::InvalidFilename))
 }
 
 // The first bytes of a file, as many as there is room for; one that can't be opened is empty. The result is how many came.
@@ -46,90 +43,50 @@ fn play_file(
     console::play(step, &input[..count], out)
 }
 
-// Whether an argument is `50`.
-fn is_half_cent(argument: &[u8]) -> bool {
-    if argument.len() == 2 {
-        if argument[0] == b'5' {
-            return argument[1] == b'0';
-        }
-    }
-    false
-}
-
-// Whether a name ends in `ask`.
-fn is_questions(name: &[u8]) -> bool {
-    let n = name.len();
-    if n < 3 {
-        return false;
-    }
-    if name[n - 3] == b'a' {
-        if name[n - 2] == b's' {
-            return name[n - 1] == b'k';
-        }
-    }
-    false
-}
-
-fn put(name: &mut [u8], at: usize, byte: u8) {
-    if at < name.len() {
-        name[at] = byte;
-    }
-}
-
-// The name with `bin` in the place of its last three bytes.
+// The name with `bin` in the place of its last three bytes; a shorter one stays.
 fn name_stream(name: &mut [u8]) {
-    let n = name.len();
-    if n < 3 {
-        return;
+    if let Some(at) = name.len().checked_sub(3) {
+        name[at..].copy_from_slice(b"bin");
     }
-    put(name, n - 3, b'b');
-    put(name, n - 2, b'i');
-    put(name, n - 1, b'n');
 }
 
-// The stream that the questions of argument i are about.
-fn read_stream(rt: &(impl Files + Eprint + Env), i: usize, content: &mut [u8]) -> io::Result<usize>
-    ensures { IfOk result (λ count. IsPrefixLen count content.new) }
-{
-    let mut space = [0u8; 4096];
-    let length = rt.arg(i, &mut space).unwrap_or(0);
-    let name = &mut space[..length];
-    name_stream(name);
-    read_file(rt, name, content)
-}
-
-// The questions of argument i, which is a file's name.
+// The questions of a file, about the stream whose name ends in `bin` in the place of `ask`; the name is made that one.
 fn ask_file(
-    rt: &(impl Files + Eprint + Env),
+    rt: &(impl Files + Eprint),
     step: u32,
-    i: usize,
-    name: &[u8],
+    name: &mut [u8],
     out: &mut impl Write,
 ) -> io::Result<()> {
-    let mut text = [0u8; 65536];
-    let text_count = read_file(rt, name, &mut text)?;
+    let mut questions = [0u8; 65536];
+    let question_bytes = read_file(rt, name, &mut questions)?;
+    name_stream(name);
     let mut stream = [0u8; 65536];
-    let stream_count = read_stream(rt, i, &mut stream)?;
-    questions::ask(step, &stream[..stream_count], &text[..text_count], out)
+    let stream_bytes = read_file(rt, name, &mut stream)?;
+    questions::ask(
+        step,
+        &stream[..stream_bytes],
+        &questions[..question_bytes],
+        out,
+    )
 }
 
-// Argument i: `50`, a stream to play at the step, or questions. The result is the step for the next one.
+// An argument: `50`, a stream to play at the step, or questions. The result is the step for the next one.
+// no struct of handle, step and writer: three functions take all of them, and no contract says a fact about them
 fn play_argument(
-    rt: &(impl Files + Eprint + Env),
+    rt: &(impl Files + Eprint),
     step: u32,
-    i: usize,
-    argument: &[u8],
+    argument: &mut [u8],
     out: &mut impl Write,
 ) -> io::Result<u32> {
-    if is_half_cent(argument) {
+    if matches!(&*argument, b"50") {
         return Ok(increments::HALF_CENT);
     }
     out.write_all(argument)?;
     out.write_all(b"\n")?;
     // so that what is said of a missing file stands behind its name also where both go to one place
     out.flush()?;
-    if is_questions(argument) {
-        ask_file(rt, step, i, argument, out)?;
+    if argument.ends_with(b"ask") {
+        ask_file(rt, step, argument, out)?;
     } else {
         play_file(rt, step, argument, out)?;
     }
@@ -146,7 +103,7 @@ fn play_arguments(rt: &(impl Files + Eprint + Env), out: &mut impl Write) -> io:
             Err(FillError::TooLong) => 0,
             Err(FillError::NotPresent) => break,
         };
-        step = play_argument(rt, step, i, &space[..length], out)?;
+        step = play_argument(rt, step, &mut space[..length], out)?;
     }
     out.flush()
 }

@@ -4,7 +4,7 @@ use native.Mathlib.Nat.{le_of_suc-le-suc, not-suc-le-zero}
 use native.Mathlib.Omega.{arith}
 use mathlib.Core.Path.{◌≡◌, refl, sym, ap, ◌∙◌, subst}
 use mathlib.Core.Bool.{Bool, true, false, not}
-use mathlib.Core.Option.{none}
+use mathlib.Core.Option.{none, some}
 use mathlib.Core.List.{List, [], ◌∷◌}
 use lib.Dec.{T, ltb, lt→ltb, ltb→lt, not_T}
 use lib.ListN.{length, get_or}
@@ -13,10 +13,19 @@ use Rattle.numbers.proofs.TestLaws.{by_test, pick_yes, pick_no, ne→T}
 use Rattle.book.specs.declared.Order.{Order}
 use Rattle.book.specs.rules.Orders.{find, insert}
 use Rattle.book.specs.rules.Words.{empty_order}
-use Rattle.book.specs.steps.Positions.{insert_at, rank_of}
+use Rattle.std.specs.Prelude.{Result, Ok, Err, IfOk, IfErr}
+use Rattle.std.specs.Result.{result_ok}
+use Rattle.std.specs.List.Sorted.{IsSearchInRange, IsBinarySearchResult, IsNonDecreasingBy}
+use Rattle.std.specs.Ordering.{nat_cmp, ordering_index}
+use Rattle.std.specs.declared.cmp.Ordering.{Ordering}
+use Rattle.std.specs.declared.cmp.Ordering.TheVariants.{Less, Greater}
+use Rattle.std.proofs.lemmas.Cmp.{ranked}
+use Rattle.std.proofs.lemmas.List.Sorted.{IsNonDecreasingBy-from_default}
+use Rattle.std.proofs.lemmas.Bool.Decides.{nat_tests}
+use Rattle.book.specs.steps.Positions.{insert_at, rank_of, IsIdAt, IsGapFor, Found}
 use Rattle.numbers.proofs.TabulateLaws.{by_order}
 use Rattle.book.proofs.definitions.RisingLaws.{Rises}
-use Rattle.book.proofs.refinement.PositionLaws.{id_above}
+use Rattle.book.proofs.refinement.PositionLaws.{id_above, find_at}
 
 -- the id at a position
 abbrev pub id_in : List Order → ℕ → ℕ
@@ -34,10 +43,6 @@ module _ (l : List Order) (id m : ℕ) (r : Rises 0 l) (h : m < length l) where
   pub none_above : id_in l m ≤ id → (j : ℕ) → j < m + 1 → id_in l j ≤ id
   none_above t j a =
       by_order j m (λ b. omega (arith, ids_rise_lem 0 l j m r b h)) (λ b. let e : m ≡ j = omega arith in subst (λ (x : ℕ). id_in l x ≤ id) e t)
-
-  pub all_above : id < id_in l m → (j : ℕ) → m ≤ j → j < length l → id < id_in l j
-  all_above t j a c =
-      by_order m j (λ b. omega (arith, ids_rise_lem 0 l m j r b c)) (λ b. let e : m ≡ j = omega arith in subst (λ (x : ℕ). id < id_in l x) e t)
 
 -- the rank of an id
 
@@ -57,29 +62,6 @@ rank_length id [] = zero-le
 rank_length id (o ∷ os) =
     by_test (λ (n : ℕ). n ≤ suc (length os)) _ (λ t. zero-le) (λ t. omega (arith, rank_length id os))
 
--- the binary search: nothing below low is above the id, all from high on are
-pub record RankBetween (l : List Order) (id low high : ℕ) : Type 0 where
-  pub ordered : low ≤ high
-  pub inside : high ≤ length l
-  pub lower : (j : ℕ) → j < low → id_in l j ≤ id
-  pub upper : (j : ℕ) → high ≤ j → j < length l → id < id_in l j
-
-pub between_start : (l : List Order) (id n : ℕ) → n ≡ length l → RankBetween l id 0 n
-between_start l id n e =
-    record { ordered = zero-le; inside = omega arith; lower = λ j h. absurd (not-suc-le-zero h); upper = λ j h k. absurd (omega arith) }
-
-pub between_low : {l : List Order} {id low high : ℕ} (m : ℕ) → Rises 0 l → RankBetween l id low high → m < high → id_in l m ≤ id → RankBetween l id (m + 1) high
-between_low {l} {id} m r b h t =
-    record { ordered = omega arith; inside = b.inside; lower = none_above l id m r (omega (arith, b.inside)) t; upper = b.upper }
-
-pub between_high : {l : List Order} {id low high : ℕ} (m : ℕ) → Rises 0 l → RankBetween l id low high → low ≤ m → m < high → id < id_in l m → RankBetween l id low m
-between_high {l} {id} m r b g h t =
-    record { ordered = g; inside = omega (arith, b.inside); lower = b.lower; upper = all_above l id m r (omega (arith, b.inside)) t }
-
-pub between_end : {l : List Order} {id low high : ℕ} → RankBetween l id low high → high ≤ low → low ≡ rank_of id l
-between_end {l} {id} {low} b h =
-    sym (rank_is id l low (omega (arith, b.ordered, b.inside)) b.lower (λ k. b.upper low h k))
-
 -- an order with the id stands just before its rank
 pub rank_of_found : (id : ℕ) (l : List Order) (j : ℕ) → Rises 0 l → j < length l → id_in l j ≡ id → suc j ≡ rank_of id l
 rank_of_found id l j r h e =
@@ -93,8 +75,35 @@ find_none id [] h = refl
 find_none id (o ∷ os) h =
     pick_no _ _ _ (ne→T id o.id (λ e. h 0 (omega arith) (sym e))) ∙ find_none id os (λ j l. h (suc j) (omega arith))
 
-pub find_absent : (id : ℕ) (l : List Order) → Rises 0 l → ((j : ℕ) → suc j ≡ rank_of id l → id_in l j ≡ id → ⊥) → find id l ≡ none
-find_absent id l r k = find_none id l (λ j h e. k j (rank_of_found id l j r h e) e)
+-- a binary search by id among the words of the places ends at the order with the id, or at the gap for it
+module _ (l : List Order) (r : Rises 0 l) (id : ℕ) (places : List (List ℕ)) (size : length places ≡ length l) (is : (j : ℕ) → j < length l → get_or (get_or places j []) 0 0 ≡ id_in l j) where
+  abbrev answer : List ℕ → Ordering
+  answer place = nat_cmp (get_or place 0 0) id
+
+  answers_rise : IsNonDecreasingBy (λ place. ordering_index (answer place)) places
+  answers_rise =
+      IsNonDecreasingBy-from_default (λ place. ordering_index (answer place)) places [] (λ i j le h.
+      let ids : get_or (get_or places i []) 0 0 ≤ get_or (get_or places j []) 0 0 = by_order i j (λ b. omega (arith, is i (omega arith), is j (omega arith), ids_rise_lem 0 l i j r b (omega arith))) (λ b. subst (λ (x : ℕ). get_or (get_or places i []) 0 0 ≤ get_or (get_or places x []) 0 0) {x = i} (omega arith) (omega arith)) in
+      grind (arith, nat_tests))
+
+  less : (j : ℕ) → j < length l → answer (get_or places j []) ≡ Less → id_in l j < id
+  less j h e = subst (λ (x : ℕ). x < id) (is j h) (ranked _ id _ (sym e))
+
+  greater : (j : ℕ) → j < length l → answer (get_or places j []) ≡ Greater → id < id_in l j
+  greater j h e = subst (λ (x : ℕ). id < x) (is j h) (ranked _ id _ (sym e))
+
+  pub searched : (end : Result ℕ ℕ) → IsSearchInRange end (length places) → IsBinarySearchResult answer places end → record { found : IfOk end (IsIdAt id l); absent : IfErr end (IsGapFor id l) }
+  searched (Ok i) h equal = record { found = (omega arith, sym (is i (omega arith)) ∙ ranked _ id _ (sym (equal []))); absent = tt }
+  searched (Err i) h parted =
+      let split = parted answers_rise in
+      let low : (j : ℕ) → j < i → id_in l j < id = λ j b. less j (omega arith) (split.0 j [] (omega arith) b) in
+      let high : (j : ℕ) → i ≤ j → j < length l → id < id_in l j = λ j b c. greater j c (split.1 j [] b (omega arith)) in
+      record { found = tt; absent = (sym (rank_is id l i (omega arith) (λ j b. omega (arith, low j b)) (λ b. high i (omega arith) b)), find_none id l (λ j b e. by_order j i (λ c. omega (arith, low j c)) (λ c. omega (arith, high j c b)))) }
+
+pub found_id : (l : List Order) → Rises 0 l → (id : ℕ) (end : Result ℕ ℕ) → IfOk end (IsIdAt id l) → IfErr end (IsGapFor id l) → Found l (result_ok end) (find id l)
+found_id l r id (Ok i) at gap =
+    record { is = sym (subst (λ (x : ℕ). find x l ≡ some (get_or l i empty_order)) at.1 (find_at 0 l empty_order i r at.0)); below = at.0 }
+found_id l r id (Err i) at gap = record { is = sym gap.1; below = tt }
 
 -- by position and by id: no rising ids are needed
 pub insert_rank : (o : Order) (l : List Order) → insert o l ≡ insert_at (rank_of o.id l) o l

@@ -12,7 +12,7 @@ use Rattle.book.specs.declared.Order.{Order}
 use Rattle.book.specs.rules.Sound.{ids_rise, stamps_differ, sound_order}
 use Rattle.numbers.specs.Lists.{tabulate}
 use Rattle.book.specs.rules.Words.{word, order_at, resting, flags_at, is_book, sound_book}
-use Rattle.book.specs.steps.RecordWalk.{stamp_at, stamp_seen, id_before, sound_at}
+use Rattle.book.specs.steps.RecordWalk.{stamp_at, stamp_seen, id_before, flags_in, sound_in, sound_at}
 use Rattle.book.proofs.definitions.OrderLaws.{stamp_of, Differ}
 use Rattle.book.proofs.definitions.RisingLaws.{Rises, ids_rise_rises, rises_ids_rise}
 use Rattle.numbers.proofs.TabulateLaws.{all_tabulate, tabulate_all}
@@ -103,7 +103,7 @@ module _ (step last_id last_stamp : ℕ) (w : List ℕ) where
       T_and (is_book w) _ p.layout (T_and (ids_rise 0 (resting w)) _ p.rising (T_and (every (sound_order step last_id last_stamp) (resting w)) _ (T-every (sound_order step last_id last_stamp) (resting w) p.orders) p.stamps))
 
   parts_places : SoundParts step last_id last_stamp w → SoundPlaces step last_id last_stamp w
-  unfolding sound_at resting
+  unfolding sound_in flags_in flags_at resting
   parts_places p =
       let n = get_or w 0 0 in
       let h : LaidOut w = is_book-laid_out w p.layout in
@@ -117,7 +117,7 @@ module _ (step last_id last_stamp : ℕ) (w : List ℕ) where
       }
 
   places_parts : SoundPlaces step last_id last_stamp w → SoundParts step last_id last_stamp w
-  unfolding sound_at resting
+  unfolding sound_in flags_in flags_at resting
   places_parts p =
       let n = get_or w 0 0 in
       let a : (i : ℕ) → i < n → T (flags_at w i) × T (ltb (id_before w i) (word w i 0) && sound_order step last_id last_stamp (order_at w i)) = λ i l. and_T (flags_at w i) _ (p.sound i l) in

@@ -6,13 +6,14 @@ use mathlib.Core.Bool.{Bool, false, ◌&&◌}
 use mathlib.Core.Logic.{◌⊎◌, inl, inr}
 use mathlib.Core.List.{List}
 use lib.Bits.{bit_or, or_lt, or_add_and, and_le_l, and_le_r}
+use lib.ListN.{get_or}
 use lib.Dec.{T, leb, ltb, eqb, leb→le, le→leb, eqb→eq}
-use Rattle.numbers.proofs.TestLaws.{and_T, T_and, or_T, T-inl, T-inr, eq→T, bool_ext, conj_T, T-conj, tests}
+use Rattle.numbers.proofs.TestLaws.{and-false, and_no, and_T, T_and, or_T, T-inl, T-inr, eq→T, bool_ext, conj_T, T-conj, tests}
 use Rattle.prices.specs.Prices.{legal}
 use Rattle.book.specs.declared.Order.{Order}
 use Rattle.book.specs.rules.Sound.{most_shares, most_owner, slide_allowed, market_allowed, order_conditions, sound_order}
-use Rattle.book.specs.rules.Words.{word, order_at, flags_at}
-use Rattle.book.specs.steps.RecordWalk.{from_one, codes_sound, prices_sound, bits_at, market_at, id_before, sound_at}
+use Rattle.book.specs.rules.Words.{order_of}
+use Rattle.book.specs.steps.RecordWalk.{from_one, codes_sound, prices_sound, bits_in, flags_in, market_in, sound_in}
 use Rattle.book.proofs.definitions.OrderConditionLaws.{MayRest, order_may_rest}
 
 -- an order whose show is 0 or 1, whose owner is in range and whose market flag is allowed
@@ -39,10 +40,45 @@ sound_groups step last_id last_stamp o h owner k = bool_ext _ _ there back
         let price = and_T (legal step o.price) _ limit.1 in
         T-conj (order_conditions step last_id last_stamp o) (a.0, (mark.0, (limit.0, (shares.0, (shares.1, (le→leb _ _ h, (life.0, (mark.1, (stamp.0, (stamp.1, (price.0, (price.1, (k, (le→leb _ _ owner, tt))))))))))))))
 
--- the order at place i
-pub place_groups : (step last_id last_stamp : ℕ) (w : List ℕ) (i : ℕ) → word w i 4 ≤ 1 → word w i 14 ≤ most_owner → T (market_at w i) → let o : Order = order_at w i in sound_order step last_id last_stamp o ≡ (leb o.id last_id && (from_one o.shares most_shares && (from_one o.stamp last_stamp && (codes_sound o.mark o.life o.slide && prices_sound step o.limit o.price o.entry_bid))))
-unfolding market_at
-place_groups step last_id last_stamp w i h owner k = sound_groups step last_id last_stamp (order_at w i) h owner k
+-- the order of a place's words
+pub place_groups : (step last_id last_stamp : ℕ) (place : List ℕ) → get_or place 4 0 ≤ 1 → get_or place 14 0 ≤ most_owner → T (market_in place) → let o : Order = order_of place in sound_order step last_id last_stamp o ≡ (leb o.id last_id && (from_one o.shares most_shares && (from_one o.stamp last_stamp && (codes_sound o.mark o.life o.slide && prices_sound step o.limit o.price o.entry_bid))))
+unfolding market_in
+place_groups step last_id last_stamp place h owner k = sound_groups step last_id last_stamp (order_of place) h owner k
+
+-- a place of which one group fails
+module _ (step last_id last_stamp : ℕ) (place : List ℕ) (h : get_or place 4 0 ≤ 1) (owner : get_or place 14 0 ≤ most_owner) (k : T (market_in place)) where
+  abbrev o : Order
+  o = order_of place
+
+  abbrev id : Bool
+  id = leb o.id last_id
+
+  abbrev shares : Bool
+  shares = from_one o.shares most_shares
+
+  abbrev stamp : Bool
+  stamp = from_one o.stamp last_stamp
+
+  abbrev codes : Bool
+  codes = codes_sound o.mark o.life o.slide
+
+  abbrev prices : Bool
+  prices = prices_sound step o.limit o.price o.entry_bid
+
+  pub unsound_last_id : id ≡ false → sound_order step last_id last_stamp o ≡ false
+  unsound_last_id e = place_groups step last_id last_stamp place h owner k ∙ and_no (shares && (stamp && (codes && prices))) e
+
+  pub unsound_shares : shares ≡ false → sound_order step last_id last_stamp o ≡ false
+  unsound_shares e =
+      place_groups step last_id last_stamp place h owner k ∙ ap (λ (b : Bool). id && b) (and_no (stamp && (codes && prices)) e) ∙ and-false id
+
+  pub unsound_stamp : stamp ≡ false → sound_order step last_id last_stamp o ≡ false
+  unsound_stamp e =
+      place_groups step last_id last_stamp place h owner k ∙ ap (λ (b : Bool). id && (shares && b)) (and_no (codes && prices) e) ∙ ap (λ (b : Bool). id && b) (and-false shares) ∙ and-false id
+
+  pub unsound_codes : codes ≡ false → sound_order step last_id last_stamp o ≡ false
+  unsound_codes e =
+      place_groups step last_id last_stamp place h owner k ∙ ap (λ (b : Bool). id && (shares && (stamp && b))) (and_no prices e) ∙ ap (λ (b : Bool). id && (shares && b)) (and-false stamp) ∙ ap (λ (b : Bool). id && b) (and-false shares) ∙ and-false id
 
 -- the slide of a short, and that of another order
 
@@ -87,19 +123,23 @@ pub six_bits : (a k b c d e : ℕ) → leb (bit_or a (bit_or (k / 32_768) (bit_o
 six_bits a k b c d e =
     more_bits a _ (more_bits (k / 32_768) _ (more_bits b _ (more_bits c _ (both_bits d e))) ∙ ap (λ (x : Bool). x && (leb b 1 && (leb c 1 && (leb d 1 && leb e 1)))) (owner_bit k))
 
-module _ (step last_id last_stamp : ℕ) (w : List ℕ) (i : ℕ) where
+module _ (step last_id last_stamp before : ℕ) (place : List ℕ) where
   -- what holds of a place that is sound
-  sound_flags : T (sound_at step last_id last_stamp w i) → T (flags_at w i) × MayRest step last_id last_stamp (order_at w i)
-  unfolding sound_at
+  sound_flags : T (sound_in step last_id last_stamp before place) → T (flags_in place) × MayRest step last_id last_stamp (order_of place)
+  unfolding sound_in
   sound_flags t =
-      let p = and_T (flags_at w i) _ t in
-      (p.0, order_may_rest step last_id last_stamp (order_at w i) (and_T (ltb (id_before w i) (word w i 0)) _ p.1).1)
+      let p = and_T (flags_in place) _ t in
+      (p.0, order_may_rest step last_id last_stamp (order_of place) (and_T (ltb before (get_or place 0 0)) _ p.1).1)
 
-  pub unsound_bits : bits_at w i ≡ false → sound_at step last_id last_stamp w i ≡ false
-  unfolding bits_at
+  pub unsound_bits : bits_in place ≡ false → sound_in step last_id last_stamp before place ≡ false
+  unfolding bits_in
   unsound_bits e =
-      bool_ext _ _ (λ t. let p = sound_flags t in subst T e (T_and (leb (word w i 4) 1) _ (le→leb _ _ p.1.works.fields.show) (T_and (leb (word w i 14) most_owner) _ (le→leb _ _ p.1.works.fields.owner) p.0))) (λ t. absurd t)
+      bool_ext _ _ (λ t. let p = sound_flags t in subst T e (T_and (leb (get_or place 4 0) 1) _ (le→leb _ _ p.1.works.fields.show) (T_and (leb (get_or place 14 0) most_owner) _ (le→leb _ _ p.1.works.fields.owner) p.0))) (λ t. absurd t)
 
-  pub unsound_market : market_at w i ≡ false → sound_at step last_id last_stamp w i ≡ false
-  unfolding market_at
+  pub unsound_market : market_in place ≡ false → sound_in step last_id last_stamp before place ≡ false
+  unfolding market_in
   unsound_market e = bool_ext _ _ (λ t. subst T e (sound_flags t).1.works.fields.market) (λ t. absurd t)
+
+  pub unsound_id : ltb before (get_or place 0 0) ≡ false → sound_in step last_id last_stamp before place ≡ false
+  unfolding sound_in
+  unsound_id e = rw e (and-false (flags_in place))

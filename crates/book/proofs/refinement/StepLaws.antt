@@ -10,8 +10,8 @@ use lib.ListN.{length, get_or, set, take, drop, drop_of_length-le}
 use borrow.Author.Tests.{le-leb, lt-leb}
 use Rattle.numbers.specs.Tests.{pick}
 use Rattle.book.specs.declared.Order.{Order}
-use Rattle.book.specs.declared.Position.{Position}
-use Rattle.book.specs.declared.Position.TheVariants.{At, Absent}
+use Rattle.std.specs.Prelude.{Option as Place}
+use Rattle.std.specs.Prelude.{Some, None}
 use Rattle.book.specs.rules.Orders.{reduced, without}
 use Rattle.book.specs.rules.Matching.{reaches, better, better_of, best_from, best, after_trade}
 use Rattle.book.specs.rules.Words.{empty_order}
@@ -53,19 +53,19 @@ module _ (l : List Order) (i : ℕ) (r : Rises 0 l) (h : i < length l) where
 -- the search for the best order: one order considered
 
 module _ (w : Order) (l : List Order) (i : ℕ) where
-  pub consider_first : reaches w (get_or l i empty_order) ≡ true → considered w l Absent i ≡ some (get_or l i empty_order)
+  pub consider_first : reaches w (get_or l i empty_order) ≡ true → considered w l None i ≡ some (get_or l i empty_order)
   unfolding pick better_of
   consider_first r = rw r
 
-  pub consider_better : (b : ℕ) → reaches w (get_or l i empty_order) ≡ true → better w (get_or l i empty_order) (get_or l b empty_order) ≡ true → considered w l (At b) i ≡ some (get_or l i empty_order)
+  pub consider_better : (b : ℕ) → reaches w (get_or l i empty_order) ≡ true → better w (get_or l i empty_order) (get_or l b empty_order) ≡ true → considered w l (Some b) i ≡ some (get_or l i empty_order)
   unfolding pick better_of
   consider_better b r e = rw (r, e)
 
-  pub consider_worse : (b : ℕ) → reaches w (get_or l i empty_order) ≡ true → better w (get_or l i empty_order) (get_or l b empty_order) ≡ false → considered w l (At b) i ≡ some (get_or l b empty_order)
+  pub consider_worse : (b : ℕ) → reaches w (get_or l i empty_order) ≡ true → better w (get_or l i empty_order) (get_or l b empty_order) ≡ false → considered w l (Some b) i ≡ some (get_or l b empty_order)
   unfolding pick better_of
   consider_worse b r e = rw (r, e)
 
-  pub consider_unreached : (f : Position) → reaches w (get_or l i empty_order) ≡ false → considered w l f i ≡ order_in l f
+  pub consider_unreached : (f : Place ℕ) → reaches w (get_or l i empty_order) ≡ false → considered w l f i ≡ order_in l f
   unfolding pick
   consider_unreached f r = rw r
 
@@ -75,7 +75,7 @@ pub best_start : (w : Order) (l : List Order) → best w l ≡ best_from w none 
 unfolding best
 best_start w l = refl
 
-pub best_more : (w : Order) (l : List Order) (f g : Position) (i : ℕ) → i < length l → order_in l g ≡ considered w l f i → best_from w (order_in l f) (drop i l) ≡ best_from w (order_in l g) (drop (i + 1) l)
+pub best_more : (w : Order) (l : List Order) (f g : Place ℕ) (i : ℕ) → i < length l → order_in l g ≡ considered w l f i → best_from w (order_in l f) (drop i l) ≡ best_from w (order_in l g) (drop (i + 1) l)
 best_more w l f g i h e =
     best_from_at w (order_in l f) l empty_order i h ∙ ap₂ (λ x k. best_from w x (drop k l)) (sym e) (sym (add-one i))
 

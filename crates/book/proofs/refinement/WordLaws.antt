@@ -1,8 +1,8 @@
 -- Laws of a book's words: its orders by their words, and the layout test. Assumes nothing.
 use Prim.Native.Nat.{ℕ, zero, suc, ◌+◌, ◌-◌, ◌≤◌, ◌<◌, zero-le, suc-le-suc}
-use native.Mathlib.Nat.{add-zero, le_of_suc-le-suc, not-suc-le-zero}
+use native.Mathlib.Nat.{le_of_suc-le-suc, not-suc-le-zero}
 use native.Mathlib.Omega.{arith}
-use mathlib.Core.Path.{◌≡◌, refl, sym, ap, ◌∙◌, subst}
+use mathlib.Core.Path.{◌≡◌, refl, ap, ◌∙◌, subst}
 use mathlib.Core.Bool.{Bool, true, false}
 use mathlib.Core.List.{List, [], ◌∷◌}
 use lib.Dec.{T, eqb, leb, leb→le, le→leb, eqb→eq}
@@ -11,7 +11,7 @@ use Rattle.numbers.specs.Tests.{conj}
 use Rattle.numbers.proofs.TestLaws.{and_T, T_and, eq→T}
 use Rattle.book.specs.declared.Order.{Order}
 use Rattle.numbers.specs.Lists.{tabulate}
-use Rattle.book.specs.rules.Words.{order_width, venue_words, layout_number, layout_word, first_flag, past_flags, place_from, order_of, flag_word, empty_order, word, order_at, resting, flags_at, header_laid_out, is_book}
+use Rattle.book.specs.rules.Words.{order_width, venue_words, layout_number, layout_word, first_flag, past_flags, order_of, flag_word, empty_order, word, order_at, resting, flags_at, header_laid_out, is_book}
 use Rattle.book.specs.steps.BookSteps.{Book}
 use Rattle.book.specs.steps.WordSteps.{Row}
 use Rattle.numbers.proofs.TabulateLaws.{by_order, length-tabulate, get_d_tabulate, tabulate_ext}
@@ -39,20 +39,6 @@ resting_is w = refl
 
 pub resting_n : (w : List ℕ) (n : ℕ) → n ≡ length (resting w) → tabulate n (order_at w) ≡ resting w
 resting_n w n e = ap (λ (m : ℕ). tabulate m (order_at w)) (e ∙ resting_length w) ∙ resting_is w
-
--- the order at p, as its words are read one by one
-
-abbrev step : ℕ → ℕ → ℕ
-step p zero = p
-step p (suc k) = p + suc k
-
-step_is : (p k : ℕ) → step p k ≡ p + k
-step_is p zero = sym (add-zero p)
-step_is p (suc k) = refl
-
-pub loaded : (w : List ℕ) (i : ℕ) → i < length (resting w) → order_of (tabulate order_width (λ k. get_or w (step (place_from i) k) 0)) ≡ get_or (resting w) i empty_order
-loaded w i h =
-    rw (resting_at_lem w i h) (order_ext (λ k. get_or w (step (place_from i) k) 0) (word w i) (λ k hk. ap (λ (q : ℕ). get_or w q 0) (step_is (place_from i) k)))
 
 -- a flag as a word
 

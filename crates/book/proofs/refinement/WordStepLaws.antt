@@ -1,5 +1,5 @@
--- Laws of loops over words: none yet, and one word more. Assumes nothing.
-use Prim.Native.Nat.{ℕ, suc, ◌+◌, ◌-◌, ◌≤◌, ◌<◌, zero-le}
+-- Laws of words moved by one place: none yet, one word more, and within a run. Assumes nothing.
+use Prim.Native.Nat.{ℕ, ◌+◌, ◌-◌, ◌≤◌, ◌<◌, zero-le}
 use native.Mathlib.Nat.{not-suc-le-zero}
 use native.Mathlib.Omega.{arith}
 use mathlib.Core.Path.{◌≡◌, refl, ◌∙◌, ap, subst, sym}
@@ -36,36 +36,6 @@ copied_stored w w' row i o r c =
       flags = λ k l h. subst (λ (x : ℕ). x ≤ 1) (sym (c.new k (flag_inside h))) (r.flags k l h);
       below = c.below;
       above = c.above;
-    }
-
-pub shifted_down_none : (w : List ℕ) (from : ℕ) → ShiftedDown w w from from
-shifted_down_none w from =
-    record { size = refl; below = λ j h. refl; moved = λ j a b. absurd (omega arith); above = λ j h. refl }
-
-pub shifted_down_more : (w₀ w : List ℕ) (from j : ℕ) → ShiftedDown w₀ w from j → from ≤ j → j < length w → ShiftedDown w₀ (set w j (get_or w (j + order_width) 0)) from (j + 1)
-shifted_down_more w₀ w from j c f h =
-    let v = get_or w (j + order_width) 0 in
-    record {
-      size = length-set w j v ∙ c.size;
-      below = λ q hq. get_or-set_other w j q v 0 (λ e. omega arith) ∙ c.below q hq;
-      moved =
-          λ q a b. by_order q j (λ l. get_or-set_other w j q v 0 (λ e. omega arith) ∙ c.moved q a l) (λ l. let e : q ≡ j = omega arith in rw e (get_or-set_same w j v 0 h ∙ c.above (j + order_width) (omega arith)));
-      above = λ q hq. get_or-set_other w j q v 0 (λ e. omega arith) ∙ c.above q (omega arith);
-    }
-
-pub shifted_up_none : (w : List ℕ) (to : ℕ) → ShiftedUp w w to to
-shifted_up_none w to =
-    record { size = refl; below = λ j h. refl; moved = λ j a b. absurd (omega arith); above = λ j h. refl }
-
-pub shifted_up_more : (w₀ w : List ℕ) (j to : ℕ) → ShiftedUp w₀ w (suc j) to → j < to → j + order_width < length w → ShiftedUp w₀ (set w (j + order_width) (get_or w j 0)) j to
-shifted_up_more w₀ w j to c f h =
-    let v = get_or w j 0 in
-    record {
-      size = length-set w (j + order_width) v ∙ c.size;
-      below = λ q hq. get_or-set_other w (j + order_width) q v 0 (λ e. omega arith) ∙ c.below q (omega arith);
-      moved =
-          λ q a b. by_order j q (λ l. get_or-set_other w (j + order_width) (q + order_width) v 0 (λ e. omega arith) ∙ c.moved q l b) (λ l. let e : q ≡ j = omega arith in rw e (get_or-set_same w (j + order_width) v 0 h ∙ c.below j (omega arith)));
-      above = λ q hq. get_or-set_other w (j + order_width) q v 0 (λ e. omega arith) ∙ c.above q hq;
     }
 
 -- a step on the words from an index on is one on all words
@@ -108,7 +78,7 @@ module _ (w s' : List ℕ) (from to : ℕ) (a : from ≤ to) (h : from ≤ lengt
   part_up c =
       record {
         size = same_len_mid from rest w s' c.size;
-        below = back_below;
+        below = λ j l. by_order j from (back_below j) (λ m. back_at j m ∙ c.below (j - from) (omega arith) ∙ at (j - from) j (omega arith));
         moved =
             λ j l m. back_at (j + order_width) (omega arith) ∙ ap (λ (i : ℕ). get_or s' i 0) (omega arith) ∙ c.moved (j - from) zero-le (omega arith) ∙ at (j - from) j (omega arith);
         above = λ j l. back_at j (omega arith) ∙ c.above (j - from) (omega arith) ∙ at (j - from) j (omega arith);

@@ -1,12 +1,11 @@
 -- Depth: document 01, "Depth". A run of order records is lent by the host and may hold anything. Assumes nothing.
-use Rattle.std.specs.Prelude.{ℕ, ◌+◌, Bool, ◌&&◌, List, [], ◌∷◌, eqb, leb, ltb, length}
+use Rattle.std.specs.Prelude.{ℕ, ◌+◌, Bool, ◌&&◌, List, [], ◌∷◌, eqb, leb, ltb, length, Result, Ok, Err}
 use Rattle.numbers.specs.Tests.{pick}
 use Rattle.numbers.specs.Answers.{Outcome, gives, refuses}
 use Rattle.book.specs.declared.OrderRecord.{OrderRecord}
 use Rattle.book.specs.declared.Side.{Side}
 use Rattle.book.specs.declared.Side.TheVariants.{Buy, Sell}
-use Rattle.book.specs.declared.DepthAnswer.{DepthAnswer}
-use Rattle.book.specs.declared.DepthAnswer.TheVariants.{Shares, TooMany}
+use Rattle.book.specs.declared.TooManyRecords.{TooManyRecords}
 
 -- "Mark 0 counts as a buy, 1 to 3 as a sell, any other mark .. as nothing"
 unfoldable pub on_side : Side → ℕ → Bool
@@ -33,7 +32,7 @@ depth_outcome n sum = pick (ltb 256 n) (refuses 15) (gives sum)
 unfoldable pub depth_of : List OrderRecord → ℕ → Side → Outcome ℕ
 depth_of run p s = depth_outcome (length run) (all_shown p s run)
 
--- the paper's terms for an answer
-abbrev pub outcome_of_depth : DepthAnswer → Outcome ℕ
-outcome_of_depth (Shares n) = gives n
-outcome_of_depth TooMany = refuses 15
+-- the paper's terms for an answer: the shares, or 15
+abbrev pub outcome_of_depth : Result ℕ TooManyRecords → Outcome ℕ
+outcome_of_depth (Ok n) = gives n
+outcome_of_depth (Err e) = refuses 15

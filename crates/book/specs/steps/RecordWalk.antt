@@ -1,10 +1,12 @@
 -- The record walk, place by place: the conditions in groups, stamps seen before, and the buckets by which they are looked up.
 -- Assumes nothing.
-use Rattle.std.specs.Prelude.{ℕ, zero, suc, ◌%◌, ◌<◌, ◌≡◌, Bool, false, ◌&&◌, ◌||◌, List, leb, ltb, eqb, get_or}
-use Rattle.numbers.specs.Tests.{pick}
+use Rattle.std.specs.Prelude.{ℕ, zero, suc, ◌+◌, ◌-◌, ◌%◌, ◌<◌, ◌≡◌, Bool, false, ◌&&◌, ◌||◌, List, leb, ltb, eqb, get_or}
+use Rattle.numbers.specs.Tests.{pick, conj}
+use Rattle.numbers.specs.Lists.{tabulate}
 use Rattle.prices.specs.Prices.{legal, is_bid}
 use Rattle.book.specs.rules.Sound.{most_owner, slide_allowed, market_allowed, sound_order}
-use Rattle.book.specs.rules.Words.{word, order_at, flags_at}
+use Rattle.book.specs.rules.Words.{first_flag, past_flags, word, order_of}
+use Rattle.book.specs.steps.WordSteps.{place_in}
 
 -- the conditions on one order, in groups
 
@@ -17,9 +19,23 @@ codes_sound mark life slide = eqb life 0 && (leb mark 3 && slide_allowed mark sl
 unfoldable pub prices_sound : ℕ → ℕ → ℕ → ℕ → Bool
 prices_sound step limit price bid = legal step limit && (legal step price && is_bid step bid)
 
--- No. 1: a market flag at place i stands on a short with limit 1
-unfoldable pub market_at : List ℕ → ℕ → Bool
-market_at w i = market_allowed (eqb (word w i 13) 1) (word w i 1) (word w i 2)
+-- the conditions on the words of one place
+
+-- No. 1: a market flag stands on a short with limit 1
+unfoldable pub market_in : List ℕ → Bool
+market_in place = market_allowed (eqb (get_or place 13 0) 1) (get_or place 1 0) (get_or place 2 0)
+
+unfoldable pub flags_in : List ℕ → Bool
+flags_in place = conj (tabulate (past_flags - first_flag) (λ k. leb (get_or place (first_flag + k) 0) 1))
+
+-- show and the flags are each 0 or 1, and the owner is in range
+unfoldable pub bits_in : List ℕ → Bool
+bits_in place = leb (get_or place 4 0) 1 && (leb (get_or place 14 0) most_owner && flags_in place)
+
+-- a place by itself and beside the id of the place before it
+unfoldable pub sound_in : ℕ → ℕ → ℕ → ℕ → List ℕ → Bool
+sound_in step last_id last_stamp before place =
+    flags_in place && (ltb before (get_or place 0 0) && sound_order step last_id last_stamp (order_of place))
 
 -- stamps
 
@@ -48,11 +64,6 @@ abbrev pub id_before : List ℕ → ℕ → ℕ
 id_before w zero = 0
 id_before w (suc i) = word w i 0
 
--- show and the flags of place i are each 0 or 1, and its owner is in range
-unfoldable pub bits_at : List ℕ → ℕ → Bool
-bits_at w i = leb (word w i 4) 1 && (leb (word w i 14) most_owner && flags_at w i)
-
 -- place i by itself and beside the place before it
-unfoldable pub sound_at : ℕ → ℕ → ℕ → List ℕ → ℕ → Bool
-sound_at step last_id last_stamp w i =
-    flags_at w i && (ltb (id_before w i) (word w i 0) && sound_order step last_id last_stamp (order_at w i))
+abbrev pub sound_at : ℕ → ℕ → ℕ → List ℕ → ℕ → Bool
+sound_at step last_id last_stamp w i = sound_in step last_id last_stamp (id_before w i) (place_in w i)

@@ -1,7 +1,12 @@
 -- What the steps over single words do: an order stored, words shifted by one place. Assumes nothing.
 use Rattle.std.specs.Prelude.{ℕ, ◌+◌, ◌≤◌, ◌<◌, ◌≡◌, List, length, get_or}
+use Rattle.numbers.specs.Lists.{tabulate}
 use Rattle.book.specs.declared.Order.{Order}
 use Rattle.book.specs.rules.Words.{order_width, first_flag, past_flags, place_from, word, order_at, order_of}
+
+-- the words of place i
+abbrev pub place_in : List ℕ → ℕ → List ℕ
+place_in w i = tabulate order_width (word w i)
 
 -- the list is the words of the order o
 pub record Row (row : List ℕ) (o : Order) : Type 0 where
@@ -30,10 +35,9 @@ pub record ShiftedDown (w w' : List ℕ) (from to : ℕ) : Type 0 where
   pub moved : (j : ℕ) → from ≤ j → j < to → get_or w' j 0 ≡ get_or w (j + order_width) 0
   pub above : (j : ℕ) → to ≤ j → get_or w' j 0 ≡ get_or w j 0
 
--- w' is w outside the words from index from up to index to and one place, and has there the words from index from up to index to,
--- one place on
+-- w' is w outside the words from index from up to index to moved up by one place
 pub record ShiftedUp (w w' : List ℕ) (from to : ℕ) : Type 0 where
   pub size : length w' ≡ length w
-  pub below : (j : ℕ) → j < from → get_or w' j 0 ≡ get_or w j 0
+  pub below : (j : ℕ) → j < from + order_width → get_or w' j 0 ≡ get_or w j 0
   pub moved : (j : ℕ) → from ≤ j → j < to → get_or w' (j + order_width) 0 ≡ get_or w j 0
   pub above : (j : ℕ) → to + order_width ≤ j → get_or w' j 0 ≡ get_or w j 0

@@ -221,7 +221,7 @@ form_positive : (k : ℕ) (xs : List ℕ) → 1 ≤ length (bytes_of_all (k ∷ 
 unfolding bytes_of_all
 form_positive k xs = omega (arith, length_positive k, length-append (bytes_of k) (bytes_of_all xs))
 
-record_positive : (e : Event) → 1 ≤ length (record_bytes e)
+pub record_positive : (e : Event) → 1 ≤ length (record_bytes e)
 unfolding record_bytes
 record_positive (entry e) = form_positive 1 _
 record_positive (cancel i) = form_positive 2 _

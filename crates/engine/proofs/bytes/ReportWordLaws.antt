@@ -26,7 +26,7 @@ use Rattle.engine.specs.declared.Remainder.TheVariants.{Filled, Cancelled, Rests
 use Rattle.engine.specs.declared.Move.{Move}
 use Rattle.engine.specs.declared.Move.TheVariants.{Stay, Cancel, Reprice}
 use Rattle.engine.specs.rules.Market.{market_after}
-use Rattle.engine.specs.rules.Reports.{Report, executed, cancelled, opt_out, end_of_day, same_firm}
+use Rattle.engine.specs.rules.Reports.{Report, executed, cancelled, opt_out, end_of_day, same_firm, cause_number}
 use Rattle.engine.specs.rules.Working.{order_of, remainder, after_remainder, happened, work}
 use Rattle.engine.specs.rules.Pass.{Effect, after_move, pass_one, pass_over}
 use Rattle.engine.specs.rules.Venue.{Venue, entering, effect_of_entry, effect_of_cancel, the_pass, restriction_report, effect_of_tape, cancelled_at_end, effect_of_day_end, effect_of, last_id_after}
@@ -90,7 +90,7 @@ module _ (g : ℕ) {n s : ℕ} (i : Word n) where
   after_remainder_words : (x : Remainder) (w : Order) (os : List Order) → RemainderOf w x → MayWork g n s w → All ReportWords (after_remainder x w os).reports
   unfolding after_remainder
   after_remainder_words Filled w os h f = tt
-  after_remainder_words (Cancelled cause) w os h f = (cancelled_words w cause (order_words g n s w i f) (omega (arith, h.1)), tt)
+  after_remainder_words (Cancelled cause) w os h f = (cancelled_words w (cause_number cause) (order_words g n s w i f) (omega (arith, h.1)), tt)
   after_remainder_words Rests w os h f = tt
 
   work_words : (w : Order) (os : List Order) → SoundWork g n s w os → All ReportWords (work w os).reports

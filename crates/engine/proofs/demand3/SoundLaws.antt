@@ -31,6 +31,7 @@ use Rattle.engine.specs.declared.Remainder.{Remainder}
 use Rattle.engine.specs.declared.Remainder.TheVariants.{Filled, Cancelled, Rests}
 use Rattle.engine.specs.declared.Move.{Move}
 use Rattle.engine.specs.declared.Move.TheVariants.{Stay, Cancel, Reprice}
+use Rattle.engine.specs.rules.Reports.{cause_number}
 use Rattle.engine.specs.rules.Market.{market_after, restricted, permitted_now}
 use Rattle.engine.specs.rules.Working.{is_market, limit_of, follows_bid, life_of, working_price, order_of, remainder, after_remainder, work}
 use Rattle.engine.specs.rules.Pass.{move_down, slide_once, slide_down, move_of, at_new_price, Effect, after_move, pass_one, pass_over}
@@ -96,7 +97,7 @@ module _ {g n s : ℕ} {os : List Order} (b : SoundBook g n s os) where
 -- what is known where this becomes of what is left of w
 abbrev pub RemainderOf : Order → Remainder → Type 0
 RemainderOf w Filled = w.shares ≡ 0
-RemainderOf w (Cancelled cause) = (0 < w.shares) × (cause ≤ 3)
+RemainderOf w (Cancelled cause) = (0 < w.shares) × (cause_number cause ≤ 3)
 RemainderOf w Rests = (0 < w.shares) × (w.life ≡ 1 → ⊥)
 
 pub remainder_known : (w : Order) → RemainderOf w (remainder w)

@@ -5,8 +5,8 @@ use mathlib.Core.List.{List}
 use lib.ListN.{length, get_or}
 use Rattle.numbers.specs.Answers.{Outcome}
 use Rattle.book.specs.declared.Order.{Order}
-use Rattle.book.specs.declared.Position.{Position}
-use Rattle.book.specs.declared.Position.TheVariants.{At}
+use Rattle.std.specs.Prelude.{Option as Place}
+use Rattle.std.specs.Prelude.{Some}
 use Rattle.book.specs.rules.Orders.{find}
 use Rattle.book.specs.rules.Words.{empty_order}
 use Rattle.book.specs.steps.Positions.{Found}
@@ -16,9 +16,9 @@ use Rattle.engine.specs.steps.Memory.{Accepts}
 use Rattle.engine.specs.claims.Calls.{Applied}
 
 -- an order found at a position is there, and has the id
-pub found_at : {l : List Order} {r : Position} {i id : ℕ} → Found l r (find id l) → r ≡ At i → (i < length l) × ((get_or l i empty_order).id ≡ id)
+pub found_at : {l : List Order} {r : Place ℕ} {i id : ℕ} → Found l r (find id l) → r ≡ Some i → (i < length l) × ((get_or l i empty_order).id ≡ id)
 found_at {l} {r} {i} {id} f e =
-    let g : Found l (At i) (find id l) = subst (λ (p : Position). Found l p (find id l)) e f in
+    let g : Found l (Some i) (find id l) = subst (λ (p : Place ℕ). Found l p (find id l)) e f in
     (g.below, (subst (Rattle.book.proofs.definitions.OrderLaws.Found id l) (sym g.is) (find_found id l)).1)
 
 -- an event said otherwise

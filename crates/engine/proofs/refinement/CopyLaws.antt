@@ -1,24 +1,24 @@
 -- The run that the loop of `copy_out` makes is the one that its contract says. Assumes nothing.
 use mathlib.Core.Path.{◌≡◌, refl, sym, ap, ◌∙◌}
-use Prim.Native.Nat.{ℕ, zero, suc, ◌+◌, ◌≤◌, ◌<◌}
+use Prim.Native.Nat.{ℕ, zero, suc, ◌+◌, ◌≤◌}
 use native.Mathlib.Nat.{not-suc-le-zero, le_of_suc-le-suc}
 use native.Mathlib.Omega.{arith}
 use native.Mathlib.Numerals.{add-one}
 use mathlib.Core.Bool.{Bool, true, false}
-use mathlib.Core.List.{List, [], ◌∷◌, ◌++◌, map}
+use mathlib.Core.List.{List, [], ◌∷◌, ◌++◌, map, append-nil}
 use lib.Dec.{leb}
 use lib.ListN.{length, get_or, set, drop, length-set}
+use Rattle.std.proofs.lemmas.List.{drop_all}
 use borrow.Author.Tests.{leb-true}
 use Rattle.numbers.specs.Tests.{pick}
-use Rattle.numbers.specs.Answers.{gives, refuses}
+use Rattle.numbers.specs.Answers.{Outcome, gives, refuses}
 use Rattle.numbers.proofs.TestLaws.{answered_T}
 use Rattle.book.specs.declared.OrderRecord.{OrderRecord}
 use Rattle.book.specs.rules.Words.{empty_order, resting}
 use Rattle.book.specs.steps.BookSteps.{Book}
 use Rattle.book.specs.rules.OrderRecords.{record_of}
 use Rattle.engine.specs.rules.Layout.{sound_words}
-use Rattle.engine.specs.rules.Copy.{copy_outcome, copied}
-use Rattle.engine.specs.steps.Steps.{filled_by}
+use Rattle.engine.specs.rules.Copy.{copy_outcome, run_after, copied}
 use Rattle.engine.proofs.refinement.RefuseLaws.{words_ordered}
 
 -- ---- the outcome, by the tests
@@ -34,6 +34,9 @@ module _ (w : List ℕ) (n : ℕ) where
   pub copy_fills : sound_words w ≡ true → leb (length (resting w)) n ≡ true → copy_outcome w n ≡ gives (length (resting w))
   unfolding copy_outcome pick
   copy_fills s l = simp (s, l)
+
+never : {n k : ℕ} → gives n ≡ refuses k → ⊥
+never e = let z : ◌≡◌ {A = ℕ} 0 1 = cc in omega arith
 
 pub sound_book_lem : {b : Bool} (w : List ℕ) → b ≡ sound_words w → b ≡ true → Book w
 sound_book_lem w e y = (words_ordered w (answered_T e y)).book
@@ -74,33 +77,34 @@ module _ {A : Type 0} where
 abbrev pub record_out : List ℕ → ℕ → OrderRecord
 record_out w i = record_of (get_or (resting w) i empty_order)
 
-abbrev pub copies : List ℕ → ℕ → ℕ
-copies w n = filled_by (copy_outcome w n)
+-- a run of as many records, each written
+pub all_out : (w : List ℕ) (l : List OrderRecord) → length l ≡ length (resting w) → fill_to (length l) (record_out w) l ≡ map record_of (resting w)
+all_out w l e =
+    let none : drop (length (resting w)) l ≡ [] = drop_all (length (resting w)) l (omega (arith, e)) in
+    rw e (rw (none, append-nil) at (fill_all record_of (resting w) l empty_order (omega (arith, e))))
 
--- by how the two tests come out
-copy_at : (w : List ℕ) (l : List OrderRecord) (y z : Bool) → sound_words w ≡ y → leb (length (resting w)) (length l) ≡ z → fill_to (copies w (length l)) (record_out w) l ≡ copied w l
+-- what a count says of the words and of the run, and what the run is then
+pub record Copies (w : List ℕ) (n count : ℕ) : Type 0 where
+  pub book : Book w
+  pub is : count ≡ length (resting w)
+  pub few : count ≤ n
+
+copies_at : (w : List ℕ) (n : ℕ) {count : ℕ} (y z : Bool) → sound_words w ≡ y → leb (length (resting w)) n ≡ z → gives count ≡ copy_outcome w n → Copies w n count
+copies_at w n {count} true true s h e =
+    let f : ◌≡◌ {A = Outcome ℕ} (gives count) (gives (length (resting w))) = e ∙ copy_fills w n s h in
+    let i : count ≡ length (resting w) = cc in
+    record { book = sound_book_lem w (sym s) refl; is = i; few = omega (arith, i, leb-true (length (resting w)) n h) }
+copies_at w n true false s h e = absurd (never (e ∙ copy_short w n s h))
+copies_at w n false z s h e = absurd (never (e ∙ copy_broken w n s))
+
+pub copy_given : {w : List ℕ} {n count : ℕ} → gives count ≡ copy_outcome w n → Copies w n count
+copy_given {w} {n} e = copies_at w n (sound_words w) (leb (length (resting w)) n) refl refl e
+
+pub copy_done : (w : List ℕ) (l : List OrderRecord) {count : ℕ} → gives count ≡ copy_outcome w (length l) → map record_of (resting w) ++ drop count l ≡ copied w l
 unfolding copied
-copy_at w l true true s h = rw (copy_fills w (length l) s h) (fill_all record_of (resting w) l empty_order (leb-true (length (resting w)) (length l) h))
-copy_at w l true false s h = rw (copy_short w (length l) s h) (sym (fill_none (record_out w) l))
-copy_at w l false z s h = rw (copy_broken w (length l) s) (sym (fill_none (record_out w) l))
+copy_done w l e = ap (λ (o : Outcome ℕ). run_after o (map record_of (resting w)) l) e
 
-pub copy_is : (w : List ℕ) (l : List OrderRecord) → fill_to (copies w (length l)) (record_out w) l ≡ copied w l
-copy_is w l = copy_at w l (sound_words w) (leb (length (resting w)) (length l)) refl refl
-
--- a turn reads an order that rests, and writes within the run
-abbrev Within : List ℕ → ℕ → ℕ → Type 0
-Within w n i = (Book w × (i < length (resting w))) × (i < n)
-
-within_at : (w : List ℕ) (n i : ℕ) (y z : Bool) → sound_words w ≡ y → leb (length (resting w)) n ≡ z → i < copies w n → Within w n i
-within_at w n i true true s h lt =
-    let c : length (resting w) ≤ n = leb-true (length (resting w)) n h in
-    let l : i < length (resting w) = rw (copy_fills w n s h) at lt in
-    ((sound_book_lem w (sym s) refl, l), omega arith)
-within_at w n i true false s h lt = let l : i < 0 = rw (copy_short w n s h) at lt in absurd (omega arith)
-within_at w n i false z s h lt = let l : i < 0 = rw (copy_broken w n s) at lt in absurd (omega arith)
-
-pub turn_within : (w : List ℕ) (n i : ℕ) → i < copies w n → Within w n i
-turn_within w n i lt = within_at w n i (sound_words w) (leb (length (resting w)) n) refl refl lt
-
-pub copied_length : (w : List ℕ) (l : List OrderRecord) → length (copied w l) ≡ length l
-copied_length w l = ap length (sym (copy_is w l)) ∙ fill_length (copies w (length l)) (record_out w) l
+-- a refusal leaves it
+pub copy_kept : (w : List ℕ) (l : List OrderRecord) {k : ℕ} → refuses k ≡ copy_outcome w (length l) → l ≡ copied w l
+unfolding copied
+copy_kept w l e = ap (λ (o : Outcome ℕ). run_after o (map record_of (resting w)) l) e

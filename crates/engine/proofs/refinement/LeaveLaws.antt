@@ -26,7 +26,7 @@ use Rattle.engine.specs.rules.Reports.{cancelled, day_ended, asked_for, end_of_d
 use Rattle.engine.specs.rules.Venue.{Venue, effect_of_cancel, cancelled_at_end, effect_of_day_end, effect_of, venue_after}
 use Rattle.engine.specs.rules.Sound.{most_events}
 use Rattle.engine.specs.rules.Records.{report_bytes, reports_bytes}
-use Rattle.engine.specs.steps.Memory.{Ordered, Becomes, Room, in_market, with_orders, finished, effect_in, MayAccept, Accepts}
+use Rattle.engine.specs.steps.Memory.{Becomes, Room, in_market, with_orders, finished, effect_in, MayAccept, Accepts}
 use Rattle.engine.specs.rules.Venue.{with_kept}
 use Rattle.engine.specs.rules.Layout.{venue_of}
 use Rattle.engine.proofs.refinement.StepLaws.{reports_one, reports_append}
@@ -56,12 +56,12 @@ module _ (w : List ℕ) (i : ℕ) (a : MayAccept w) (h : i < length (resting w))
   cancel_bytes o e =
       reports_one _ ∙ ap (λ (q : ℕ). report_bytes (cancelled TheId q asked_for)) (shares_at 0 (resting w) empty_order i (ids_rise_rises 0 (resting w) a.ordered.rises) h) ∙ ap (λ (x : Order). report_bytes (cancelled x.id x.shares asked_for)) (sym e)
 
-  taken_out : {w₁ : List ℕ} → Holds w w₁ (without TheId (resting w)) → Becomes w w₁ (with_orders (without TheId (resting w)) (venue_of w))
+  pub taken_out : {w₁ : List ℕ} → Holds w w₁ (without TheId (resting w)) → Becomes w w₁ (with_orders (without TheId (resting w)) (venue_of w))
   taken_out =
       holds_becomes (rises_ids_rise 0 (without TheId (resting w)) (rises_without 0 TheId (resting w) (ids_rise_rises 0 (resting w) a.ordered.rises)))
 
-  pub taken_accepts : {w₁ : List ℕ} → Holds w w₁ (without TheId (resting w)) → Ordered w₁ × ((venue_of w₁).accepted_events < most_events)
-  taken_accepts g = let b = taken_out g in (b.ordered, rw b.venue a.events)
+  pub taken_accepts : {w₁ : List ℕ} → Holds w w₁ (without TheId (resting w)) → (venue_of w₁).accepted_events < most_events
+  taken_accepts g = rw (taken_out g).venue a.events
 
   pub cancel_done : {w₁ w' b b' : List ℕ} {end : ℕ} (o : Order) → o ≡ get_or (resting w) i empty_order → Put (report_bytes (cancelled o.id o.shares asked_for)) 0 b end b' → Holds w w₁ (without TheId (resting w)) → Becomes w₁ w' (finished (venue_of w₁).last_id (venue_of w₁).last_stamp (venue_of w₁)) → Accepts w w' b b' (cancel TheId) end
   unfolding effect_in effect_of effect_of_cancel venue_of
@@ -99,12 +99,12 @@ module _ (w : List ℕ) (close : ℕ) (m : Market) (e : m ≡ market_after (day_
         omega (arith, both_fit, p.ends, ap length p.leaves, length_overwrite b 0 Cancels (omega (arith, both_fit)))
 
   module _ (a : MayAccept w) {w₁ : List ℕ} (g : Holds w w₁ []) where
-    emptied : Becomes w w₁ (with_orders [] (venue_of w))
+    pub emptied : Becomes w w₁ (with_orders [] (venue_of w))
     unfolding ids_rise
     emptied = holds_becomes tt g
 
-    pub emptied_may_set : Ordered w₁ × (m.step ≡ (venue_of w₁).market.step)
-    emptied_may_set = (emptied.ordered, ap (λ (x : Market). x.step) e ∙ ap (λ (v : Venue). v.market.step) (sym emptied.venue))
+    pub emptied_may_set : m.step ≡ (venue_of w₁).market.step
+    emptied_may_set = ap (λ (x : Market). x.step) e ∙ ap (λ (v : Venue). v.market.step) (sym emptied.venue)
 
     pub emptied_in : {w₂ : List ℕ} → Becomes w₁ w₂ (in_market m (venue_of w₁)) → Becomes w w₂ (in_market m (with_orders [] (venue_of w)))
     emptied_in f = becomes_as (becomes_then emptied f) (ap (in_market m) emptied.venue)
@@ -115,8 +115,8 @@ module _ (w : List ℕ) (close : ℕ) (m : Market) (e : m ≡ market_after (day_
         let r = emptied_in f in
         becomes_as (becomes_then r k) (λ i. with_kept (kept_none w₂ book_words i) (r.venue i))
 
-    pub emptied_accepts : {w₂ w₃ : List ℕ} → Becomes w₁ w₂ (in_market m (venue_of w₁)) → Becomes w₂ w₃ (with_kept (kept_in w₂ book_words 0) (venue_of w₂)) → Ordered w₃ × ((venue_of w₃).accepted_events < most_events)
-    emptied_accepts f k = let r = emptied_kept f k in (r.ordered, rw r.venue a.events)
+    pub emptied_accepts : {w₂ w₃ : List ℕ} → Becomes w₁ w₂ (in_market m (venue_of w₁)) → Becomes w₂ w₃ (with_kept (kept_in w₂ book_words 0) (venue_of w₂)) → (venue_of w₃).accepted_events < most_events
+    emptied_accepts f k = rw (emptied_kept f k).venue a.events
 
   pub day_done : {w₂ w' b b₁ b' : List ℕ} {at end : ℕ} → Room b 0 (effect_in w (day_end close)).reports → Put Cancels 0 b at b₁ → Put (report_bytes (day_ended m.phase)) at b₁ end b' → Becomes w w₂ (with_kept [] (in_market m (with_orders [] (venue_of w)))) → Becomes w₂ w' (finished (venue_of w₂).last_id (venue_of w₂).last_stamp (venue_of w₂)) → Accepts w w' b b' (day_end close) end
   unfolding effect_in effect_of effect_of_day_end venue_of

@@ -1,7 +1,7 @@
 -- What writing header words, taking orders out and keeping a price does to the venue of the words. Assumes nothing.
 use Prim.Native.Nat.{ℕ, ◌+◌, ◌≤◌, ◌<◌}
 use native.Mathlib.Omega.{arith}
-use mathlib.Core.Path.{◌≡◌, refl, sym, ap, ◌∙◌, subst}
+use mathlib.Core.Path.{◌≡◌, refl, ap, ◌∙◌, subst}
 use mathlib.Core.List.{List}
 use lib.Dec.{T, eqb, eqb→eq}
 use lib.ListN.{length, get_or, length-set}
@@ -163,11 +163,17 @@ pub events_counted : {w w' : List ℕ} {n : ℕ} → Ordered w → n ≡ get_or 
 unfolding venue_of pick
 events_counted o e h = becomes_as (word_set (omega arith) o h) (rw e)
 
-pub event_finished : {w w₁ w₂ w' : List ℕ} {id stamp n : ℕ} → Ordered w → n ≡ get_or w 6 0 → HeaderSet w w₁ 4 id → HeaderSet w₁ w₂ 5 stamp → HeaderSet w₂ w' 6 (n + 1) → Becomes w w' (finished id stamp (venue_of w))
+-- the venue with a last id and a last stamp
+abbrev pub with_ids : ℕ → ℕ → Venue → Venue
+with_ids id stamp v =
+    record { market = v.market; orders = v.orders; kept = v.kept; last_id = id; last_stamp = stamp; accepted_events = v.accepted_events }
+
+pub ids_set : {w w₁ w' : List ℕ} {id stamp : ℕ} → Ordered w → HeaderSet w w₁ 4 id → HeaderSet w₁ w' 5 stamp → Becomes w w' (with_ids id stamp (venue_of w))
 unfolding pick
-event_finished {w} {w₁} {w₂} {n = n} o e f g h =
+ids_set o f g =
     let a = word_set (omega arith) o f in
     let b = word_set (omega arith) a.ordered g in
-    let k : n ≡ get_or w₂ 6 0 = e ∙ sym (word_other f 6 (λ z. omega arith)) ∙ sym (word_other g 6 (λ z. omega arith)) in
-    let c = events_counted b.ordered k h in
-    becomes_as (becomes_then a (becomes_then b c)) (rw (b.venue, a.venue))
+    becomes_as (becomes_then a b) (rw a.venue)
+
+pub event_finished : {w w₁ w' : List ℕ} {id stamp : ℕ} → Becomes w w₁ (with_ids id stamp (venue_of w)) → Becomes w₁ w' (finished (venue_of w₁).last_id (venue_of w₁).last_stamp (venue_of w₁)) → Becomes w w' (finished id stamp (venue_of w))
+event_finished a b = becomes_as (becomes_then a b) (rw a.venue)

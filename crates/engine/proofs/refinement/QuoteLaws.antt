@@ -19,7 +19,7 @@ use Rattle.engine.specs.rules.Pass.{Effect, pass_over}
 use Rattle.engine.specs.rules.Venue.{Venue, the_pass, restriction_report, effect_of_tape, effect_of}
 use Rattle.engine.specs.rules.Sound.{most_events, sound}
 use Rattle.engine.specs.rules.Records.{reports_bytes}
-use Rattle.engine.specs.steps.Memory.{Ordered, Becomes, Room, DoesEffect, in_market, with_orders, finished, effect_in, MayAccept, AcceptsFrom, Accepts}
+use Rattle.engine.specs.steps.Memory.{Becomes, Room, DoesEffect, in_market, with_orders, finished, effect_in, MayAccept, AcceptsFrom, Accepts}
 use Rattle.engine.specs.rules.Layout.{venue_of}
 use Rattle.engine.specs.steps.Steps.{ids_of, pass_in, PassesAndFinishes}
 use Rattle.engine.proofs.refinement.MemoryLaws.{becomes_then, becomes_as, does_becomes}
@@ -54,17 +54,17 @@ module _ (w : List ℕ) (a : MayAccept w) (m : Market) (s : ℕ) (em : m ≡ (ve
   unfolding the_pass venue_of
   the_pass_lem = ap₂ (λ (x : Market) (k : ℕ). pass_over x (ids_of (resting w)) (resting w) k) em es
 
-  pub pass_may : (b : List ℕ) (at : ℕ) → Room b at (pass_in w).reports → Ordered w × T (is_bid m.step m.bid) × (s + 256 < 4294967296) × Room b at Pass.reports
+  pub pass_may : (b : List ℕ) (at : ℕ) → Room b at (pass_in w).reports → T (is_bid m.step m.bid) × (s + 256 < 4294967296) × Room b at Pass.reports
   pass_may b at r =
       let v = sound_venue (venue_of w) a.sound in
-      (a.ordered, subst (λ (x : Market). T (is_bid x.step x.bid)) (sym em) v.market.bid, omega (arith, last_stamp_lem w es, v.stamps, a.events), room_as b at (ap (λ (x : Effect). x.reports) (sym the_pass_lem)) r)
+      (subst (λ (x : Market). T (is_bid x.step x.bid)) (sym em) v.market.bid, omega (arith, last_stamp_lem w es, v.stamps, a.events), room_as b at (ap (λ (x : Effect). x.reports) (sym the_pass_lem)) r)
 
   module _ {w₁ b b₁ : List ℕ} {at e t : ℕ} (d : DoesEffect w w₁ b b₁ at Pass e t) where
     passed : Becomes w w₁ (with_orders Pass.orders (venue_of w))
     passed = does_becomes d.does
 
-    pub pass_counts : Ordered w₁ × ((venue_of w₁).accepted_events < most_events)
-    pass_counts = (passed.ordered, rw passed.venue a.events)
+    pub pass_counts : (venue_of w₁).accepted_events < most_events
+    pass_counts = rw passed.venue a.events
 
     pub pass_finishes : {w' : List ℕ} {id : ℕ} → id ≡ get_or w 4 0 → Becomes w₁ w' (finished id t (venue_of w₁)) → PassesAndFinishes w w' b b₁ at e
     pass_finishes {id = id} ei f =

@@ -9,7 +9,6 @@ use mathlib.Core.List.{List}
 use lib.Dec.{T, leb, le→leb, not_T}
 use lib.ListN.{length, get_or}
 use Rattle.numbers.specs.Tests.{conj}
-use Rattle.prices.specs.Prices.{is_step}
 use Rattle.prices.specs.Pause.{sound_kept}
 use Rattle.prices.specs.KeptWords.{kept_in}
 use Rattle.prices.proofs.PauseLaws.{sound_few, sound_ordered}
@@ -93,18 +92,13 @@ module _ (w : List ℕ) where
   unfolding sound_words
   words_sound t = (and_T (is_book w) (sound (venue_of w)) t).1
 
-  -- the step of the header
-  pub header_step : T (conj (header_conditions (venue_of w))) → T (is_step (get_or w 7 0))
-  unfolding venue_of
-  header_step t = (conj_T (header_conditions (venue_of w)) t).0
-
   pub words_stepped : T (sound_words w) → HasStep w
-  words_stepped t = record { book = (words_ordered t).book; is = (words_each t).1.1.1.1.1.1.0 }
+  words_stepped t = (words_each t).1.1.1.1.1.1.0
 
   pub words_kept : T (sound_words w) → KeepsOrdered w
   words_kept t =
       let k = (words_each t).1.1.1.1.1.0 in
-      record { book = (words_ordered t).book; few = sound_few _ _ k; in_order = sound_ordered _ _ k }
+      record { few = sound_few _ _ k; in_order = sound_ordered _ _ k }
 
   pub sound_words_lem : T (is_book w) → T (sound (venue_of w)) → T (sound_words w)
   unfolding sound_words

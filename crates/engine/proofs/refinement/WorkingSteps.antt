@@ -40,6 +40,15 @@ pub execution_sell : (o x : Order) (q : ℕ) → (o.mark ≡ 0 → ⊥) → exec
 unfolding execution
 execution_sell o x q e = pick_no (eqb o.mark 0) _ _ (ne→T o.mark 0 e)
 
+-- ids still rise after a trade, and after the order at a position is taken out
+
+pub trade_ordered : (w : List ℕ) (i q : ℕ) → Ordered w → i < length (resting w) → {w' : List ℕ} → Holds w w' (after_trade (get_or (resting w) i empty_order) q (resting w)) → Ordered w'
+trade_ordered w i q o h k =
+    holds_ordered k (rises_after_trade 0 (get_or (resting w) i empty_order) q (resting w) (at_member (resting w) empty_order i h) (ordered_rises o))
+
+pub taken_ordered : (w : List ℕ) (id : ℕ) → Ordered w → {w' : List ℕ} → Holds w w' (without id (resting w)) → Ordered w'
+taken_ordered w id o k = holds_ordered k (rises_without 0 id (resting w) (ordered_rises o))
+
 -- a trade, as the code has it: x is the order at i, and q the smaller number of shares
 
 module _ (w : List ℕ) (o x : Order) (i q : ℕ) (ordered : Ordered w) (h : i < length (resting w)) (ex : x ≡ get_or (resting w) i empty_order) (eq : q ≡ min o.shares x.shares) where

@@ -22,7 +22,7 @@ use Rattle.engine.specs.declared.Remainder.TheVariants.{Filled, Cancelled, Rests
 use Rattle.engine.specs.declared.Move.{Move}
 use Rattle.engine.specs.declared.Move.TheVariants.{Stay, Cancel, Reprice}
 use Rattle.engine.specs.rules.Market.{market_after}
-use Rattle.engine.specs.rules.Reports.{Report, accepted, cancelled, repriced, restriction_starts, day_ended, pause_triggered}
+use Rattle.engine.specs.rules.Reports.{Report, accepted, cancelled, repriced, restriction_starts, day_ended, pause_triggered, cause_number}
 use Rattle.engine.specs.rules.Working.{order_of, remainder, after_remainder, happened, work}
 use Rattle.engine.specs.rules.Pass.{at_new_price, Effect, after_move}
 use Rattle.engine.specs.rules.Venue.{Venue, opened, entering, effect_of_entry, effect_of_cancel, the_pass, restriction_report, effect_of_tape, effect_of_timed_tape, cancelled_at_end, effect_of_day_end, effect_of, last_id_after}
@@ -83,7 +83,7 @@ module _ {A : Type 0} (r : Reading A) (I : ℕ → ℕ → List Order → A → 
     remainder_reads : (n s : ℕ) (x : Remainder) (w : Order) (os : List Order) (c : A) → RemainderOf w x → W n s w os c → I n s (after_remainder x w os).orders (foldl r.read c (after_remainder x w os).reports)
     unfolding after_remainder
     remainder_reads n s Filled w os c f h = k.gone n s w os c h
-    remainder_reads n s (Cancelled cause) w os c f h = rw (k.cancelled_unread c w.id w.shares cause (omega (arith, f.1))) (k.gone n s w os c h)
+    remainder_reads n s (Cancelled cause) w os c f h = rw (k.cancelled_unread c w.id w.shares (cause_number cause) (omega (arith, f.1))) (k.gone n s w os c h)
     remainder_reads n s Rests w os c f h = k.rests n s w os c h
 
     work_reads : {g n s : ℕ} (w : Order) (os : List Order) (c : A) → SoundWork g n s w os → W n s w os c → I n s (work w os).orders (foldl r.read c (work w os).reports)

@@ -12,7 +12,7 @@ use Rattle.engine.specs.declared.Remainder.{Remainder}
 use Rattle.engine.specs.declared.Remainder.TheVariants.{Filled, Cancelled, Rests}
 use Rattle.engine.specs.declared.Move.{Move}
 use Rattle.engine.specs.declared.Move.TheVariants.{Stay, Cancel, Reprice}
-use Rattle.engine.specs.rules.Reports.{Report, executed, cancelled, repriced}
+use Rattle.engine.specs.rules.Reports.{Report, executed, cancelled, repriced, cause_number}
 use Rattle.engine.specs.rules.Working.{remainder, after_remainder, happened, work}
 use Rattle.engine.specs.rules.Pass.{after_move, pass_one, pass_over}
 use Rattle.engine.specs.rules.Venue.{Venue, the_pass}
@@ -26,7 +26,7 @@ module _ (P : Report → Type 0) (a : (x : Execution) → P (executed x)) (b : (
   remainder_each : (r : Remainder) (o : Order) (os : List Order) → All P (after_remainder r o os).reports
   unfolding after_remainder
   remainder_each Filled o os = tt
-  remainder_each (Cancelled cause) o os = (b _ _ cause, tt)
+  remainder_each (Cancelled cause) o os = (b _ _ (cause_number cause), tt)
   remainder_each Rests o os = tt
 
   pub work_each : (o : Order) (os : List Order) → All P (work o os).reports

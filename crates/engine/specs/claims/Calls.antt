@@ -1,12 +1,12 @@
 -- The calls of open and apply: what they answer and leave, chains of calls, and what holds of every chain. Assumes nothing.
-use Rattle.std.specs.Prelude.{ℕ, ◌≤◌, ◌<◌, ◌≡◌, List, [], ◌∷◌, map, T, length, get_or, take}
+use Rattle.std.specs.Prelude.{ℕ, ◌≤◌, ◌<◌, ◌≡◌, List, [], ◌∷◌, map, T, length, get_or, take, Result, Ok}
 use Rattle.std.proofs.Math.Option.{Option, none as nothing, some}
 use Rattle.numbers.specs.Tests.{All}
 use Rattle.numbers.specs.Answers.{Outcome, gives, refuses}
 use Rattle.prices.specs.Prices.{is_step, legal}
 use Rattle.book.specs.rules.Words.{header_words, venue_words, resting, is_book}
 use Rattle.engine.specs.declared.Event.{Event}
-use Rattle.engine.specs.declared.OpenAnswer.{OpenAnswer}
+use Rattle.engine.specs.declared.Refusal.{Refusal}
 use Rattle.engine.specs.rules.Reports.{Report}
 use Rattle.engine.specs.rules.Venue.{opening}
 use Rattle.engine.specs.rules.Refusals.{least_buffer}
@@ -20,9 +20,10 @@ use Rattle.engine.specs.rules.Layout.{venue_of, outcome_of_open, opened_words, s
 
 -- Open
 
-pub record Opens (s close : ℕ) (answer : OpenAnswer) (words : List ℕ) : Type 0 where
-  pub answers : outcome_of_open answer words ≡ opening s close
-  pub is : words ≡ opened_words s close
+-- the answer, and the words where a venue is made
+pub record Opens (s close : ℕ) (answer : Result (List ℕ) Refusal) : Type 0 where
+  pub answers : outcome_of_open answer ≡ opening s close
+  pub is : (words : List ℕ) → answer ≡ Ok words → words ≡ opened_words s close
 
 -- Apply
 

@@ -1,5 +1,5 @@
 -- Document 02, No. 4, would it fill, as claims: the count of orders read, the refusals, and that the answer is the truth about entries. Assumes nothing.
-use Rattle.std.specs.Prelude.{ℕ, ◌+◌, ◌≤◌, ◌<◌, ◌≡◌, Bool, true, false, not, ◌||◌, List, [], ◌∷◌, T, leb, eqb, length, take}
+use Rattle.std.specs.Prelude.{ℕ, ◌+◌, ◌≤◌, ◌<◌, ◌≡◌, Bool, true, false, not, ◌||◌, List, [], ◌∷◌, T, leb, eqb, length, take, Result}
 use Rattle.std.proofs.Math.Option.{Option, none, some}
 use Rattle.numbers.specs.Tests.{pick}
 use Rattle.numbers.specs.Answers.{Outcome, gives, refuses}
@@ -11,7 +11,7 @@ use Rattle.book.specs.rules.Fill.{all_reached}
 use Rattle.book.specs.rules.Words.{resting}
 use Rattle.engine.specs.declared.Entry.{Entry}
 use Rattle.engine.specs.declared.Event.TheVariants.{Entry as entry}
-use Rattle.engine.specs.declared.FillAnswer.{FillAnswer}
+use Rattle.engine.specs.declared.Refusal.{Refusal}
 use Rattle.engine.specs.rules.Reports.{Report, accepted, executed, cancelled, repriced, restriction_starts, day_ended, pause_triggered}
 use Rattle.engine.specs.rules.Venue.{Venue, opening, effect_of_entry}
 use Rattle.engine.specs.rules.Sound.{most_orders, most_events, sound}
@@ -52,7 +52,7 @@ ReadsShortest =
 -- the same of the calls
 abbrev pub ReadsShortestInCalls : Type 0
 ReadsShortestInCalls =
-    (w : List ℕ) (mark price shares : ℕ) (told : FillAnswer) → outcome_of_fill told ≡ would_fill_in w mark price shares →
+    (w : List ℕ) (mark price shares : ℕ) (told : Result FrontRead Refusal) → outcome_of_fill told ≡ would_fill_in w mark price shares →
     (r : FrontRead) → outcome_of_fill told ≡ gives r → ReadShortest (asked_order (venue_of w).market mark price shares) (resting w) r
 
 -- at most 256 orders are read, and a refusal has a number of at least 1, of any words
@@ -80,7 +80,7 @@ RefusedByKind =
 -- the same of the calls
 abbrev pub RefusedByKindInCalls : Type 0
 RefusedByKindInCalls =
-    (w : List ℕ) (e : Entry) (told : FillAnswer) → outcome_of_fill told ≡ answer_in w e →
+    (w : List ℕ) (e : Entry) (told : Result FrontRead Refusal) → outcome_of_fill told ≡ answer_in w e →
     refusal_given (outcome_of_fill told) ≡ refuse_unless (sound_words w) 16 (of_venue_terms_or_mark (refusal_of_kind (venue_of w) (entry e)))
 
 -- by the answer of an entry that has a long enough buffer, while events are left
@@ -94,7 +94,7 @@ abbrev pub RefusedAsEntriesInCalls : Type 0
 RefusedAsEntriesInCalls =
     (w : List ℕ) (e : Entry) (b : List ℕ) (answer : Outcome ℕ) (w' b' : List ℕ) → Applied w (entry e) b answer w' b' →
     least_buffer ≤ length b → (venue_of w).accepted_events < most_events →
-    (told : FillAnswer) → outcome_of_fill told ≡ answer_in w e →
+    (told : Result FrontRead Refusal) → outcome_of_fill told ≡ answer_in w e →
     refusal_given (outcome_of_fill told) ≡ of_venue_terms_or_mark (refusal_given answer)
 
 -- "No venue reached from open gets 16": of lists of events, and of chains of calls
@@ -106,7 +106,7 @@ NoQuestionGets16 =
 abbrev pub NoQuestionOfCallsGets16 : Type 0
 NoQuestionOfCallsGets16 =
     (s close : ℕ) → T (is_step s) → T (legal s close) → (cs : List AppliedCall) (w : List ℕ) → Chain (opened_words s close) cs w →
-    (mark price shares : ℕ) (told : FillAnswer) → outcome_of_fill told ≡ would_fill_in w mark price shares → outcome_of_fill told ≡ refuses 16 → ⊥
+    (mark price shares : ℕ) (told : Result FrontRead Refusal) → outcome_of_fill told ≡ would_fill_in w mark price shares → outcome_of_fill told ≡ refuses 16 → ⊥
 
 -- The truth about entries
 
@@ -153,4 +153,4 @@ pub record TrueOfBytes (e : Entry) (after : List ℕ) (count : ℕ) (answer : Ou
 abbrev pub TellsTheTruthOfCalls : Type 0
 TellsTheTruthOfCalls =
     (w : List ℕ) (e : Entry) → Word e.id → (b : List ℕ) (count : ℕ) (w' b' : List ℕ) → Applied w (entry e) b (gives count) w' b' →
-    (told : FillAnswer) → outcome_of_fill told ≡ answer_in w e → TrueOfBytes e b' count (outcome_of_fill told)
+    (told : Result FrontRead Refusal) → outcome_of_fill told ≡ answer_in w e → TrueOfBytes e b' count (outcome_of_fill told)

@@ -1,14 +1,10 @@
 -- The paper's terms for the answers of an event: numbers of refusals, the byte count, the report buffer. Assumes nothing.
-use Rattle.std.specs.Prelude.{ℕ, List, length}
+use Rattle.std.specs.Prelude.{ℕ, List, length, Result, Ok, Err}
 use Rattle.std.proofs.Math.Option.{Option, none as nothing, some}
 use Rattle.numbers.specs.Answers.{Outcome, gives, refuses}
 use Rattle.numbers.specs.SevenBit.{overwrite}
 use Rattle.engine.specs.declared.Refusal.{Refusal}
 use Rattle.engine.specs.declared.Refusal.TheVariants.{BufferTooShort, EventsSpent, PriceNotLegal, SharesOutOfRange, ShowOrLifeOutOfRange, IdNotNew, BookFull, NotResting, VenueBroken, NotStep, MarkOutOfRange, SlideOutOfRange, SlideOnWrongMark, OwnerOutOfRange, TimeBeforeLast, KeptPricesFull}
-use Rattle.engine.specs.declared.MayRefuse.{MayRefuse}
-use Rattle.engine.specs.declared.MayRefuse.TheVariants.{Refuse, Allow}
-use Rattle.engine.specs.declared.Answer.{Answer}
-use Rattle.engine.specs.declared.Answer.TheVariants.{Accepted, Refused}
 use Rattle.engine.specs.rules.Reports.{Report}
 use Rattle.engine.specs.rules.Records.{reports_bytes}
 
@@ -32,14 +28,14 @@ refusal_number TimeBeforeLast = 22
 refusal_number KeptPricesFull = 23
 
 -- the paper's terms for what the refusals say of an event
-abbrev pub refused_with : MayRefuse → Option ℕ
-refused_with (Refuse r) = some (refusal_number r)
-refused_with Allow = nothing
+abbrev pub refused_with : Result (Unit {0}) Refusal → Option ℕ
+refused_with (Ok _) = nothing
+refused_with (Err r) = some (refusal_number r)
 
 -- the paper's terms for the answer of an event: "The result has their byte count"
-abbrev pub outcome_of_answer : Answer → Outcome ℕ
-outcome_of_answer (Accepted n) = gives n
-outcome_of_answer (Refused r) = refuses (refusal_number r)
+abbrev pub outcome_of_answer : Result ℕ Refusal → Outcome ℕ
+outcome_of_answer (Ok n) = gives n
+outcome_of_answer (Err r) = refuses (refusal_number r)
 
 -- the answer of a step with the count of its reports' bytes in their place
 abbrev pub count_of : Outcome (List Report) → Outcome ℕ

@@ -1,12 +1,12 @@
 -- Copy out: document 01, "Copy out". Assumes nothing.
-use Rattle.std.specs.Prelude.{ℕ, List, ◌++◌, map, leb, length, drop}
+use Rattle.std.specs.Prelude.{ℕ, List, ◌++◌, map, leb, length, drop, Result, Ok, Err}
 use Rattle.numbers.specs.Tests.{pick}
 use Rattle.numbers.specs.Answers.{Outcome, gives, refuses}
 use Rattle.book.specs.declared.OrderRecord.{OrderRecord}
 use Rattle.book.specs.rules.Words.{resting}
 use Rattle.book.specs.rules.OrderRecords.{record_of}
-use Rattle.engine.specs.declared.CopyAnswer.{CopyAnswer}
-use Rattle.engine.specs.declared.CopyAnswer.TheVariants.{Filled, RunTooShort, VenueBroken}
+use Rattle.engine.specs.declared.CopyError.{CopyError}
+use Rattle.engine.specs.declared.CopyError.TheVariants.{RunTooShort, VenueBroken}
 use Rattle.engine.specs.rules.Layout.{sound_words}
 
 -- "the result being how many were filled; 16 first, then 14 if the run is shorter than the book"; n is the length of the run
@@ -25,7 +25,10 @@ unfoldable pub copied : List ℕ → List OrderRecord → List OrderRecord
 copied w run = run_after (copy_outcome w (length run)) (map record_of (resting w)) run
 
 -- the paper's terms for an answer
-abbrev pub outcome_of_copy : CopyAnswer → Outcome ℕ
-outcome_of_copy (Filled n) = gives n
-outcome_of_copy RunTooShort = refuses 14
-outcome_of_copy VenueBroken = refuses 16
+abbrev pub copy_error_number : CopyError → ℕ
+copy_error_number RunTooShort = 14
+copy_error_number VenueBroken = 16
+
+abbrev pub outcome_of_copy : Result ℕ CopyError → Outcome ℕ
+outcome_of_copy (Ok n) = gives n
+outcome_of_copy (Err e) = refuses (copy_error_number e)

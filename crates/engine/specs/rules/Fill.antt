@@ -1,5 +1,5 @@
 -- Would it fill: document 02, No. 4, of a venue and of the words that mean one. Assumes nothing.
-use Rattle.std.specs.Prelude.{ℕ, List}
+use Rattle.std.specs.Prelude.{ℕ, List, Result, Ok, Err}
 use Rattle.std.proofs.Math.Option.{Option, none, some}
 use Rattle.numbers.specs.Tests.{pick}
 use Rattle.numbers.specs.Answers.{Outcome, gives, refuses}
@@ -9,8 +9,7 @@ use Rattle.book.specs.rules.Fill.{front_read}
 use Rattle.book.specs.rules.Words.{is_book}
 use Rattle.engine.specs.declared.Market.{Market}
 use Rattle.engine.specs.declared.Entry.{Entry}
-use Rattle.engine.specs.declared.FillAnswer.{FillAnswer}
-use Rattle.engine.specs.declared.FillAnswer.TheVariants.{Told, Refused}
+use Rattle.engine.specs.declared.Refusal.{Refusal}
 use Rattle.engine.specs.rules.Working.{order_of}
 use Rattle.engine.specs.rules.Venue.{Venue}
 use Rattle.engine.specs.rules.Sound.{sound}
@@ -41,6 +40,6 @@ unfoldable pub would_fill_in : List ℕ → ℕ → ℕ → ℕ → Outcome Fron
 would_fill_in w mark price shares = pick (is_book w) (would_fill (venue_of w) mark price shares) (refuses 16)
 
 -- the paper's terms for an answer
-abbrev pub outcome_of_fill : FillAnswer → Outcome FrontRead
-outcome_of_fill (Told r) = gives r
-outcome_of_fill (Refused r) = refuses (refusal_number r)
+abbrev pub outcome_of_fill : Result FrontRead Refusal → Outcome FrontRead
+outcome_of_fill (Ok r) = gives r
+outcome_of_fill (Err r) = refuses (refusal_number r)

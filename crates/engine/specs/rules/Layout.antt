@@ -1,13 +1,12 @@
 -- The venue that a run of words means: the words of open, and one event of words. Assumes nothing.
-use Rattle.std.specs.Prelude.{ℕ, Bool, ◌&&◌, List, get_or, set, replicate}
+use Rattle.std.specs.Prelude.{ℕ, Bool, ◌&&◌, List, get_or, set, replicate, Result, Ok, Err}
 use Rattle.numbers.specs.Tests.{pick}
 use Rattle.numbers.specs.Answers.{Outcome, gives, refuses}
 use Rattle.prices.specs.Prices.{is_step, legal}
 use Rattle.prices.specs.KeptWords.{kept_in}
 use Rattle.book.specs.rules.Words.{book_words, venue_words, layout_number, layout_word, resting, is_book}
 use Rattle.engine.specs.declared.Event.{Event}
-use Rattle.engine.specs.declared.OpenAnswer.{OpenAnswer}
-use Rattle.engine.specs.declared.OpenAnswer.TheVariants.{Fresh, NotOpened}
+use Rattle.engine.specs.declared.Refusal.{Refusal}
 use Rattle.engine.specs.rules.Venue.{Venue}
 use Rattle.engine.specs.rules.Sound.{sound}
 use Rattle.engine.specs.rules.Run.{Step, step}
@@ -30,9 +29,9 @@ unfoldable pub sound_words : List ℕ → Bool
 sound_words w = is_book w && sound (venue_of w)
 
 -- the paper's terms for the answer of open, whose words are the venue
-abbrev pub outcome_of_open : OpenAnswer → List ℕ → Outcome Venue
-outcome_of_open Fresh words = gives (venue_of words)
-outcome_of_open (NotOpened r) words = refuses (refusal_number r)
+abbrev pub outcome_of_open : Result (List ℕ) Refusal → Outcome Venue
+outcome_of_open (Ok words) = gives (venue_of words)
+outcome_of_open (Err r) = refuses (refusal_number r)
 
 -- the words of a fresh venue, 0 but for the close, the step s and the number of the layout; all 0 where no venue is made
 abbrev pub fresh_words : ℕ → ℕ → List ℕ

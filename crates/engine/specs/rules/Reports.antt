@@ -1,6 +1,8 @@
 -- Reports: document 01, "Reports, in the order of happening", and document 02, No. 7 and No. 10. Assumes nothing.
 use Rattle.std.specs.Prelude.{ℕ}
 use Rattle.book.specs.rules.Matching.{Execution}
+use Rattle.engine.specs.declared.Cause.{Cause}
+use Rattle.engine.specs.declared.Cause.TheVariants.{AskedFor, ImmediateOrCancel, OptOut, EndOfDay, SameFirm}
 
 pub data Report : Type 0 where
   -- 1: id, stamp, working price
@@ -34,3 +36,11 @@ end_of_day = 4
 -- No. 7: "cancelled (cause 5)", an order that one of its owner's own would have traded with
 abbrev pub same_firm : ℕ
 same_firm = 5
+
+-- the number of each
+abbrev pub cause_number : Cause → ℕ
+cause_number AskedFor = asked_for
+cause_number ImmediateOrCancel = immediate_or_cancel
+cause_number OptOut = opt_out
+cause_number EndOfDay = end_of_day
+cause_number SameFirm = same_firm

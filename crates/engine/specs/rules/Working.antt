@@ -10,7 +10,8 @@ use Rattle.engine.specs.declared.Entry.{Entry}
 use Rattle.engine.specs.declared.Remainder.{Remainder}
 use Rattle.engine.specs.declared.Remainder.TheVariants.{Filled, Cancelled, Rests}
 use Rattle.engine.specs.rules.Market.{restricted, permitted_now}
-use Rattle.engine.specs.rules.Reports.{Report, executed, cancelled, immediate_or_cancel, opt_out, same_firm}
+use Rattle.engine.specs.rules.Reports.{Report, executed, cancelled, same_firm, cause_number}
+use Rattle.engine.specs.declared.Cause.TheVariants.{ImmediateOrCancel, OptOut}
 
 -- No. 1: "A price of 0 in an entry means market"
 abbrev pub is_market : ℕ → Bool
@@ -60,8 +61,8 @@ order_of m stamp owner e =
 unfoldable pub remainder : Order → Remainder
 remainder o =
     pick (eqb o.shares 0) Filled
-    (pick (eqb o.life 1) (Cancelled immediate_or_cancel)
-    (pick (o.adjusted && eqb o.slide 3) (Cancelled opt_out)
+    (pick (eqb o.life 1) (Cancelled ImmediateOrCancel)
+    (pick (o.adjusted && eqb o.slide 3) (Cancelled OptOut)
     Rests))
 
 -- what a working order has reported, and the book after it
@@ -71,7 +72,7 @@ pub record Worked : Type 0 where
 
 unfoldable pub after_remainder : Remainder → Order → List Order → Worked
 after_remainder Filled w os = record { reports = []; orders = os }
-after_remainder (Cancelled cause) w os = record { reports = cancelled w.id w.shares cause ∷ []; orders = os }
+after_remainder (Cancelled cause) w os = record { reports = cancelled w.id w.shares (cause_number cause) ∷ []; orders = os }
 after_remainder Rests w os = record { reports = []; orders = insert w os }
 
 -- the report of what happens in a meeting: an execution; No. 7: "the resting one is cancelled (cause 5)"

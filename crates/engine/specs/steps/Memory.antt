@@ -15,29 +15,28 @@ use Rattle.engine.specs.rules.Pass.{Effect}
 use Rattle.engine.specs.rules.Venue.{Venue, effect_of, venue_after}
 use Rattle.engine.specs.rules.Sound.{most_events, sound}
 use Rattle.engine.specs.rules.Refusals.{least_buffer}
-use Rattle.engine.specs.rules.Records.{reports_bytes}
+use Rattle.engine.specs.rules.Records.{highest_field, reports_bytes}
 use Rattle.engine.specs.rules.Layout.{venue_of, sound_words}
 use Rattle.engine.specs.claims.Calls.{SameSpare}
 
--- words and a report buffer for which 16, 1 and 2 aren't given, so that only the refusals of the kind are left
+-- words and a report buffer for which 16, 1 and 2 aren't given, so that only the refusals of the kind are left; the last id is a 32-bit word
 pub record MayJudge (w b : List ℕ) : Type 0 where
   pub sound : T (sound_words w)
   pub buffer : least_buffer ≤ length b
   pub events : (venue_of w).accepted_events < most_events
+  pub last_id : (venue_of w).last_id ≤ highest_field
 
 -- words that are a book whose ids rise: what every step of the engine needs, and leaves
 pub record Ordered (w : List ℕ) : Type 0 where
   pub book : Book w
   pub rises : T (ids_rise 0 (resting w))
 
--- words that are a book, and whose step is 50 or 100
-pub record HasStep (w : List ℕ) : Type 0 where
-  pub book : Book w
-  pub is : T (is_step (venue_of w).market.step)
+-- the step of words is 50 or 100
+abbrev pub HasStep : List ℕ → Type 0
+HasStep w = T (is_step (venue_of w).market.step)
 
--- words that are a book, and whose kept prices are at most 512 and in the order of their times
+-- the kept prices of words are at most 512 and in the order of their times
 pub record KeepsOrdered (w : List ℕ) : Type 0 where
-  pub book : Book w
   pub few : length (venue_of w).kept ≤ most_kept
   pub in_order : T (times_in_order 0 (venue_of w).kept)
 

@@ -1,7 +1,6 @@
 -- What the engine's inner steps need and leave: an order that may enter, a meeting, matching, the pass and its ids. Assumes nothing.
 use Rattle.std.specs.Prelude.{ℕ, zero, suc, ◌<◌, ◌≡◌, List, [], ◌∷◌, map, length, get_or}
 use Rattle.numbers.specs.SevenBit.{Put}
-use Rattle.numbers.specs.Answers.{Outcome, gives, refuses}
 use Rattle.numbers.specs.Tests.{pick, All}
 use Rattle.book.specs.declared.Order.{Order}
 use Rattle.book.specs.rules.Orders.{find}
@@ -16,7 +15,7 @@ use Rattle.engine.specs.declared.Move.TheVariants.{Stay}
 use Rattle.engine.specs.rules.Market.{restricted}
 use Rattle.engine.specs.rules.Reports.{Report, repriced}
 use Rattle.engine.specs.rules.Working.{life_of, Worked, remainder, after_remainder, happened, work}
-use Rattle.engine.specs.rules.Pass.{Effect, move_of, pass_one}
+use Rattle.engine.specs.rules.Pass.{Effect, move_of, after_move, pass_one}
 use Rattle.engine.specs.rules.Venue.{Venue, the_pass}
 use Rattle.engine.specs.rules.Sound.{most_orders}
 use Rattle.engine.specs.rules.Records.{reports_bytes}
@@ -70,6 +69,10 @@ move_in_pass m o = pick (restricted m o.mark) (move_of m o) Stay
 abbrev pub repriced_reports : Order → List Order → List Report
 repriced_reports x os = repriced x.id x.price x.stamp ∷ (work x os).reports
 
+-- the turn of the order at position i
+abbrev pub turn_at : Market → ℕ → List Order → ℕ → Effect
+turn_at m i os s = let o : Order = get_or os i empty_order in after_move (move_in_pass m o) o os s
+
 -- the turn of the order with the id i
 abbrev pub turn_of : Market → ℕ → List Order → ℕ → Effect
 turn_of m i os s = pass_one m (find i os) os s
@@ -90,8 +93,3 @@ pass_in w = let v : Venue = venue_of w in the_pass v.market v
 pub record PassesAndFinishes (w w' b b' : List ℕ) (at end : ℕ) : Type 0 where
   pub becomes : Becomes w w' (finished (venue_of w).last_id (pass_in w).stamp (with_orders (pass_in w).orders (venue_of w)))
   pub wrote : Put (reports_bytes (pass_in w).reports) at b end b'
-
--- how many records are filled
-abbrev pub filled_by : Outcome ℕ → ℕ
-filled_by (gives n) = n
-filled_by (refuses k) = 0

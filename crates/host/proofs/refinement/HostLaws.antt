@@ -1,15 +1,14 @@
 -- The calls of a host program: the numbers of refusals, what an answer's number says, the words that venue_open leaves, what venue_apply
 -- answers. Assumes nothing.
-use Prim.Native.Nat.{ℕ, suc, ◌+◌, ◌≤◌, ◌<◌}
+use Prim.Native.Nat.{ℕ, ◌≤◌, ◌<◌}
 use native.Mathlib.Omega.{arith}
-use native.Mathlib.Numerals.{add-one}
 use mathlib.Core.Path.{◌≡◌, refl, sym, ap, ◌∙◌, subst}
 use mathlib.Core.Option.{Option, none, some}
 use mathlib.Core.Bool.{◌&&◌}
+use Rattle.std.specs.Prelude.{Result, Ok, Err}
 use mathlib.Core.List.{List, ◌++◌}
 use lib.Dec.{T, leb}
-use lib.ListN.{length, get_or, take, drop, set, length-replicate}
-use lib.Seq.{length-take-le, take-suc, drop-cons, append_snoc, set_at}
+use lib.ListN.{length, get_or, drop, length-replicate}
 use borrow.Author.Tests.{le-leb, lt-leb}
 use Rattle.numbers.specs.Tests.{pick, All}
 use Rattle.numbers.specs.Answers.{Outcome, gives, refuses, Read}
@@ -20,16 +19,12 @@ use Rattle.engine.specs.declared.Event.{Event}
 use Rattle.engine.specs.declared.Refusal.{Refusal}
 use Rattle.records.specs.declared.ReadRefusal.{ReadRefusal}
 use Rattle.records.specs.declared.ReadRefusal.TheVariants.{MissingByte, BadNumber, UnknownKind, FieldTooLarge}
-use Rattle.engine.specs.declared.Answer.{Answer}
-use Rattle.engine.specs.declared.Answer.TheVariants.{Accepted, Refused}
-use Rattle.engine.specs.declared.OpenAnswer.{OpenAnswer}
-use Rattle.engine.specs.declared.OpenAnswer.TheVariants.{Fresh, NotOpened}
 use Rattle.engine.specs.rules.Venue.{Venue, opened, opening}
 use Rattle.engine.specs.rules.Refusals.{least_buffer}
 use Rattle.engine.specs.rules.Run.{Step, step_unless}
 use Rattle.engine.specs.rules.Records.{record_numbers, record_at}
 use Rattle.engine.specs.claims.RoundTrips.{Word}
-use Rattle.records.specs.RecordAnswers.{read_refusal_number}
+use Rattle.records.specs.ReadRefusals.{read_refusal_number}
 use Rattle.engine.specs.rules.Layout.{venue_of, opened_words}
 use Rattle.engine.specs.rules.Answers.{refusal_number, outcome_of_answer, count_of}
 use Rattle.engine.specs.claims.Calls.{Opens, Applied}
@@ -62,18 +57,6 @@ module _ (o : Outcome ℕ) {answer : ℕ} (f : AnswerFits o) (e : answer ≡ hos
   pub answer_told : AnswerTold answer
   answer_told = record { answers = e ∙ ap host_answer (sym outcome_told); fits = rw outcome_told f }
 
--- copying words to the front: one word more
-
-pub front_more : (w₀ w from : List ℕ) (k : ℕ) → w ≡ take k from ++ drop k w₀ → k < length from → length from ≤ length w₀ → set w k (get_or from k 0) ≡ take (k + 1) from ++ drop (k + 1) w₀
-front_more w₀ w from k e l h =
-    let v : ℕ = get_or from k 0 in
-    let rest : List ℕ = drop (suc k) w₀ in
-    ap (λ (x : List ℕ). set x k v) (e ∙ ap (λ (x : List ℕ). take k from ++ x) (drop-cons w₀ k 0 (omega arith)))
-    ∙ set_at (take k from) (get_or w₀ k 0) rest v k (length-take-le k from (omega arith))
-    ∙ sym (append_snoc (take k from) v rest)
-    ∙ ap (λ (x : List ℕ). x ++ rest) (sym (take-suc from k 0 l))
-    ∙ ap (λ (n : ℕ). take n from ++ drop n w₀) (sym (add-one k))
-
 -- venue_open
 
 opened_length : (s close : ℕ) → length (opened_words s close) ≡ venue_words
@@ -81,27 +64,23 @@ unfolding opened_words
 opened_length s close =
     by_test (λ (w : List ℕ). length w ≡ venue_words) (is_step s && legal s close) (λ t. fresh_length s close) (λ t. length-replicate {A = ℕ} venue_words 0)
 
-pub opens_length : {s close : ℕ} {answer : OpenAnswer} {words : List ℕ} → Opens s close answer words → length words ≡ venue_words
-opens_length {s} {close} o = ap length o.is ∙ opened_length s close
+pub opens_length : {s close : ℕ} {words : List ℕ} → Opens s close (Ok words) → length words ≡ venue_words
+opens_length {s} {close} {words} o = ap length (o.is words refl) ∙ opened_length s close
 
 pub open_short : (w : List ℕ) (s close : ℕ) {n : ℕ} → length w < venue_words → n ≡ host_answer (refuses 16) → HostOpened w s close n w
 unfolding host_opening pick
 open_short w s close l k = let e = lt-leb venue_words (length w) l in record { answers = rw e k; leaves = rw e }
 
-module _ (w : List ℕ) {s close : ℕ} {words : List ℕ} {answer : OpenAnswer} (l : venue_words ≤ length w) (o : Opens s close answer words) where
-  pub open_refused : {r : Refusal} {n : ℕ} → answer ≡ NotOpened r → n ≡ host_answer (refuses (refusal_number r)) → HostOpened w s close n w
+module _ (w : List ℕ) {s close : ℕ} (l : venue_words ≤ length w) where
+  pub open_refused : {r : Refusal} {n : ℕ} → Opens s close (Err r) → n ≡ host_answer (refuses (refusal_number r)) → HostOpened w s close n w
   unfolding host_opening pick
-  open_refused {r} {n} h k =
-      let e = le-leb venue_words (length w) l in
-      let f : refuses (refusal_number r) ≡ opening s close = rw h at o.answers in
-      record { answers = rw (e, ← f) k; leaves = rw (e, ← f) }
+  open_refused o k = let e = le-leb venue_words (length w) l in record { answers = rw (e, ← o.answers) k; leaves = rw (e, ← o.answers) }
 
-  pub open_fresh : {w' : List ℕ} → answer ≡ Fresh → w' ≡ words ++ drop (length words) w → HostOpened w s close 0 w'
+  pub open_fresh : {words w' : List ℕ} → Opens s close (Ok words) → w' ≡ words ++ drop (length words) w → HostOpened w s close 0 w'
   unfolding host_opening pick
-  open_fresh h k =
+  open_fresh {words} o k =
       let e = le-leb venue_words (length w) l in
-      let f : gives (venue_of words) ≡ opening s close = rw h at o.answers in
-      record { answers = rw (e, ← f); leaves = rw (e, ← f) (k ∙ rw (opens_length o, o.is)) }
+      record { answers = rw (e, ← o.answers); leaves = rw (e, ← o.answers) (k ∙ rw (opens_length o, o.is words refl)) }
 
 -- venue_apply
 
@@ -120,9 +99,9 @@ module _ {w b w' b' : List ℕ} {e : Event} (i : Word (get_or w 4 0)) (h : All W
       go none x = reports_room (venue_of w) e (length b) (not_refused w e (length b) x) (event_last_id (venue_of w) e i h)
       go (some n) x = tt
 
-  pub applied_fits : (x : Answer) → Applied w e b (outcome_of_answer x) w' b' → AnswerFits (outcome_of_answer x)
-  applied_fits (Accepted n) a = small_count a
-  applied_fits (Refused r) a = (refusal_range r).0
+  pub applied_fits : (x : Result ℕ Refusal) → Applied w e b (outcome_of_answer x) w' b' → AnswerFits (outcome_of_answer x)
+  applied_fits (Ok n) a = small_count a
+  applied_fits (Err r) a = (refusal_range r).0
 
 pub event_applied : {w b w' b' : List ℕ} {e : Event} (o : Outcome ℕ) {answer : ℕ} → AnswerFits o → answer ≡ host_answer o → Applied w e b o w' b' → EventApplied w e b answer w' b'
 event_applied o f k a = record { told = answer_told o f k; applied = rw (outcome_told o f k) a }

@@ -42,24 +42,26 @@ told_broken ReportsFull e = absurd (omega (arith, e))
 told_broken (Unreadable r) e = absurd (omega (arith, e, read_refusal_range r))
 told_broken VenueBroken e = refl
 
--- the three numbers are written where the answer isn't 16
+-- the three numbers are written where the words are sound
 
 module _ {w records b es w' b' es' : List ℕ} {from answer : ℕ} {r : Played} (d : DayPlayed w records from b es r w' b' es') (a : answer ≡ host_answer (outcome_of_stop r.stop)) where
   broken : answer ≡ host_answer (refuses 16) → sound_words w ≡ false
   broken z = d.broken (told_broken r.stop (sym a ∙ z))
 
-  pub play_refused : {p : List ℕ} → answer ≡ host_answer (refuses 16) → HostPlayed w records from b es p answer w' b' es' p
+  pub play_refused : {p p' : List ℕ} → r.stop ≡ VenueBroken → p' ≡ p → HostPlayed w records from b es p answer w' b' es' p'
   unfolding pick
-  play_refused z = record { told = stop_told r.stop a; answers = a ∙ ap host_answer d.stops; progress = rw (broken z); refused = broken; done = d.done }
+  play_refused s q =
+      let z : answer ≡ host_answer (refuses 16) = a ∙ ap (λ (x : Stop). host_answer (outcome_of_stop x)) s in
+      rw q (record { told = stop_told r.stop a; answers = a ∙ ap host_answer d.stops; progress = rw (broken z); refused = broken; done = d.done })
 
-  pub play_answered : {p p' : List ℕ} → (answer ≡ host_answer (refuses 16) → ⊥) → p' ≡ r.events ∷ r.at ∷ r.end ∷ [] → HostPlayed w records from b es p answer w' b' es' p'
-  play_answered z q =
+  pub play_answered : {p p' : List ℕ} → (r.stop ≡ VenueBroken → ⊥) → p' ≡ r.events ∷ r.at ∷ r.end ∷ [] → HostPlayed w records from b es p answer w' b' es' p'
+  play_answered n q =
       let same : r.events ∷ r.at ∷ r.end ∷ [] ≡ progress_of (played w records from b es).day = rw (d.events, d.at, d.end) in
       record { told = stop_told r.stop a; answers = a ∙ ap host_answer d.stops; progress = q ∙ same ∙ sym (pick_yes (sound_words w) _ _ sound); refused = broken; done = d.done }
     where
       by : (x : Bool) → sound_words w ≡ x → T (sound_words w)
       by true e = rw e tt
-      by false e = absurd (z (a ∙ ap host_answer d.stops ∙ ap (λ (s : Stopped). host_answer s.stop) (broken_day w records from b es e)))
+      by false e = absurd (n (told_broken r.stop (ap host_answer d.stops ∙ ap (λ (s : Stopped). host_answer s.stop) (broken_day w records from b es e))))
 
       sound : T (sound_words w)
       sound = by (sound_words w) refl

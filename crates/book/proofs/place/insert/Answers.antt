@@ -9,7 +9,7 @@ use Rattle.book.proofs.refinement.HoldsLaws.{holds_as}
 use Rattle.book.proofs.place.insert.Goals as goal
 
 pub insert_at-requires : goal.insert_at-requires
-insert_at-requires c = (c.requires.0, omega (arith, c.rank_from_end-i.ensures, rank_length c.args.o.id (resting c.args.w.now)), c.requires.1)
+insert_at-requires c = let r = rw c.new.ensures at c.rank_from_end-i.ensures in (c.requires.0, omega (arith, r, rank_length c.args.o.id (resting c.args.w.now)), c.requires.1)
 
 pub returns : goal.returns
-returns c = let l = resting c.args.w.now in let o = c.args.o in holds_as c.insert_at.ensures (ap (λ (k : ℕ). insert_at k o l) c.rank_from_end-i.ensures ∙ sym (insert_rank o l))
+returns c = let l = resting c.args.w.now in let o = c.args.o in let r = rw c.new.ensures at c.rank_from_end-i.ensures in holds_as c.insert_at.ensures (ap (λ (k : ℕ). insert_at k o l) r ∙ sym (insert_rank o l))

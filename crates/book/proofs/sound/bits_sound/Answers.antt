@@ -1,25 +1,22 @@
 -- `bits_sound`: six numbers of one bit, the owner divided by 32,768 among them. Assumes nothing.
-use Prim.Native.Nat.{ℕ}
-use mathlib.Core.Path.{◌≡◌, ◌∙◌}
-use mathlib.Core.Bool.{true, ◌&&◌}
+use mathlib.Core.Path.{sym, ap, ◌∙◌}
+use mathlib.Core.Bool.{Bool, ◌&&◌}
 use lib.Dec.{leb}
+use lib.ListN.{get_or}
 use Rattle.numbers.proofs.TestLaws.{and_last}
 use Rattle.book.specs.rules.Sound.{most_owner}
-use Rattle.book.specs.rules.Words.{flags_at}
-use Rattle.book.specs.steps.RecordWalk.{bits_at}
+use Rattle.book.specs.steps.RecordWalk.{bits_in, flags_in}
 use Rattle.book.proofs.refinement.SoundOrderLaws.{six_bits}
 use Rattle.book.proofs.sound.bits_sound.Goals as goal
 
-same_bits : {a k b c d e a' k' b' c' d' e' : ℕ} → a ≡ a' → k ≡ k' → b ≡ b' → c ≡ c' → d ≡ d' → e ≡ e' → (leb a 1 && (leb k most_owner && (leb b 1 && (leb c 1 && (leb d 1 && leb e 1))))) ≡ (leb a' 1 && (leb k' most_owner && (leb b' 1 && (leb c' 1 && (leb d' 1 && (leb e' 1 && true))))))
-same_bits {e' = e'} h₁ h₂ h₃ h₄ h₅ h₆ = cc (h₁, h₂, h₃, h₄, h₅, h₆, and_last (leb e' 1))
-
 pub returns : goal.returns
-unfolding bits_at flags_at
+unfolding bits_in flags_in
 returns c =
-    let show = c.word_at-show in
-    let adjusted = c.word_at-adjusted in
-    let used = c.word_at-used in
-    let clear = c.word_at-clear in
-    let market = c.word_at-market in
-    let owner = c.word_at-owner in
-    six_bits show.result owner.result adjusted.result used.result clear.result market.result ∙ same_bits show.ensures owner.ensures adjusted.ensures used.ensures clear.ensures market.ensures
+    let p = c.args.place.now in
+    let show = get_or p 4 0 in
+    let adjusted = get_or p 10 0 in
+    let used = get_or p 11 0 in
+    let clear = get_or p 12 0 in
+    let market = get_or p 13 0 in
+    let owner = get_or p 14 0 in
+    six_bits show owner adjusted used clear market ∙ ap (λ (b : Bool). leb show 1 && (leb owner most_owner && (leb adjusted 1 && (leb used 1 && (leb clear 1 && b))))) (sym (and_last (leb market 1)))

@@ -5,12 +5,9 @@ use Rattle.prices.specs.Prices.{is_bid}
 use Rattle.engine.specs.declared.Market.{Market}
 use Rattle.engine.specs.rules.Working.{order_of}
 use Rattle.engine.specs.rules.Fill.{asked_entry, asked_order}
-use Rattle.engine.proofs.refinement.RefuseLaws.{words_ordered, words_sound}
+use Rattle.engine.proofs.refinement.RefuseLaws.{words_sound}
 use Rattle.engine.proofs.demand3.SoundLaws.{sound_venue}
 use Rattle.engine.proofs.fill.asked_order.Goals as goal
-
-pub market-requires : goal.market-requires
-market-requires c = (words_ordered _ c.requires).book
 
 pub order_of-requires : goal.order_of-requires
 order_of-requires c =

@@ -1,15 +1,14 @@
 -- `open` by whether the close is taken as a price. Assumes nothing.
-use mathlib.Core.Path.{sym, ap, ◌∙◌}
-use Rattle.prices.specs.Prices.{outcome_of_price}
-use Rattle.engine.specs.declared.Refusal.TheVariants.{PriceNotLegal, NotStep}
+use mathlib.Core.Path.{ap, ◌∙◌}
+use Rattle.numbers.specs.Answers.{refuses}
+use Rattle.std.proofs.lemmas.Result.{err_from_is_err_and}
 use Rattle.engine.proofs.refinement.OpeningLaws.{opens_yes, opens_no}
 use Rattle.engine.proofs.open.open.Goals as goal
 
-pub returns-in-Legal : goal.returns-in-Legal
-returns-in-Legal c = opens_yes _ _ _ (sym (ap outcome_of_price c.in-Legal.is) ∙ c.new.ensures)
+pub returns-in_err-price : goal.returns-in_err-price
+returns-in_err-price c =
+    let p = err_from_is_err_and c.from_residual.result c.from_residual.ensures.1 in
+    rw p.1 (opens_no _ _ _ (ap refuses p.2 ∙ c.in_err-price.ensures))
 
-pub returns-in-NotLegal : goal.returns-in-NotLegal
-returns-in-NotLegal c = opens_no _ _ PriceNotLegal (sym (ap outcome_of_price c.in-NotLegal.is) ∙ c.new.ensures)
-
-pub returns-in-NotStep : goal.returns-in-NotStep
-returns-in-NotStep c = opens_no _ _ NotStep (sym (ap outcome_of_price c.in-NotStep.is) ∙ c.new.ensures)
+pub returns : goal.returns
+returns c = opens_yes _ _ _ c.in_ok-price.ensures

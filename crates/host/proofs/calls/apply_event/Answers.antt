@@ -1,19 +1,31 @@
 -- The answer of apply as a number; its byte count fits. Assumes nothing.
+use Prim.Native.Nat.{ℕ}
 use native.Mathlib.Omega.{arith}
-use Rattle.engine.specs.rules.Answers.{outcome_of_answer}
-use Rattle.host.specs.claims.Calls.{AnswerFits}
+use mathlib.Core.Path.{refl, ap, ◌∙◌}
+use Rattle.std.specs.Prelude.{Ok}
+use Rattle.numbers.specs.Answers.{gives, refuses}
+use Rattle.engine.specs.rules.Answers.{refusal_number}
+use Rattle.engine.proofs.refinement.AnswerLaws.{refusal_range}
+use Rattle.host.specs.rules.Host.{host_answer}
 use Rattle.host.proofs.refinement.HostLaws.{applied_fits, event_applied}
 use Rattle.host.proofs.calls.apply_event.Goals as goal
-use Rattle.host.proofs.calls.apply_event.Goals.{After-slice_known-4-1}
 
-answer-fits : (c : After-slice_known-4-1) → AnswerFits (outcome_of_answer c.apply.result)
-answer-fits c =
-    applied_fits (omega (arith, c.slice_known-1.given 4)) c.requires c.apply.result c.apply.ensures
+pub overflow_cast-result : goal.overflow_cast-result
+overflow_cast-result c =
+    let h = applied_fits (omega (arith, c.slice_known-1.given 4)) c.requires (Ok c.in-Ok.count) c.in-Ok.ensures in
+    record { fits = omega arith }
 
-pub answer_number-requires : goal.answer_number-requires
-answer_number-requires c = answer-fits (goal.at.answer_number-requires c).After-slice_known-4-1
+pub returns-in-Ok : goal.returns-in-Ok
+returns-in-Ok c =
+    event_applied (gives c.in-Ok.count) (applied_fits (omega (arith, c.slice_known-1.given 4)) c.requires (Ok c.in-Ok.count) c.in-Ok.ensures) refl c.in-Ok.ensures
 
-pub returns : goal.returns
-returns c =
-    let a = c.apply in
-    event_applied (outcome_of_answer a.result) (answer-fits (goal.at.returns c).After-slice_known-4-1) c.answer_number.ensures a.ensures
+pub refused-requires : goal.refused-requires
+refused-requires c = omega (arith, c.from.ensures, refusal_range c.in-Err.refusal)
+
+pub returns-in-Err : goal.returns-in-Err
+returns-in-Err c =
+    event_applied
+    (refuses (refusal_number c.in-Err.refusal))
+    (refusal_range c.in-Err.refusal).0
+    (c.refused.ensures ∙ ap (λ (n : ℕ). host_answer (refuses n)) c.from.ensures)
+    c.in-Err.ensures

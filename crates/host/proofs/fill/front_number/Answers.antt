@@ -7,6 +7,6 @@ pub returns-then-front : goal.returns-then-front
 unfolding front_number pick
 returns-then-front c = rw c.if-front.true
 
-pub returns : goal.returns
+pub returns-else-front : goal.returns-else-front
 unfolding front_number pick
-returns c = rw c.if-front.false
+returns-else-front c = rw c.if-front.false

@@ -8,6 +8,6 @@ pub returns-then-side-eq0 : goal.returns-then-side-eq0
 unfolding side_of pick
 returns-then-side-eq0 c = simp (eq-eqb _ 0 c.if-side-eq0.true)
 
-pub returns : goal.returns
+pub returns-else-side-eq0 : goal.returns-else-side-eq0
 unfolding side_of pick
-returns c = simp (ne_eqb _ 0 c.if-side-eq0.false)
+returns-else-side-eq0 c = simp (ne_eqb _ 0 c.if-side-eq0.false)

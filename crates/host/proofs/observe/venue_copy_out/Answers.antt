@@ -1,9 +1,19 @@
 -- Copy out fills at most 256 records, so its count is an answer. Assumes nothing.
-use mathlib.Core.Path.{sym, subst}
+use native.Mathlib.Omega.{arith}
+use Prim.Native.Nat.{ℕ}
+use mathlib.Core.Path.{sym, subst, ap, ◌∙◌}
+use Rattle.numbers.specs.Answers.{refuses}
+use Rattle.host.specs.rules.Host.{host_answer}
 use lib.ListN.{length}
 use Rattle.host.specs.claims.Calls.{AnswerFits}
 use Rattle.host.proofs.refinement.CopyCount.{copy_fits}
 use Rattle.host.proofs.observe.venue_copy_out.Goals as goal
 
-pub copy_number-requires : goal.copy_number-requires
-copy_number-requires c = subst AnswerFits (sym c.copy_out.ensures.0) (copy_fits c.args.words.now (length c.args.run.now))
+pub overflow_cast-result : goal.overflow_cast-result
+overflow_cast-result c =
+    let h = subst AnswerFits (sym c.in-Ok.ensures.0) (copy_fits c.args.words.now (length c.args.run.now)) in
+    record { fits = omega arith }
+
+pub returns-in-Err : goal.returns-in-Err
+returns-in-Err c =
+    (c.refused.ensures ∙ ap (λ (n : ℕ). host_answer (refuses n)) c.from.ensures ∙ ap host_answer c.in-Err.ensures.0, c.in-Err.ensures.1)

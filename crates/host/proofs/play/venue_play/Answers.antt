@@ -1,10 +1,12 @@
 -- What playing answers and leaves; with 16 the three numbers stay. Assumes nothing.
-use mathlib.Core.Path.{refl}
+use Rattle.std.proofs.Common.{rules}
 use Rattle.host.proofs.refinement.PlayLaws.{play_refused, play_answered}
 use Rattle.host.proofs.play.venue_play.Goals as goal
+use Rattle.host.proofs.play.venue_play.Goals.{then-ne, else-ne}
 
-pub returns-then-answer-ne-VENUE_BROKEN : goal.returns-then-answer-ne-VENUE_BROKEN
-returns-then-answer-ne-VENUE_BROKEN c = play_answered c.play-played.ensures c.stop_number-answer.ensures c.if-answer-ne-VENUE_BROKEN.true refl
-
-pub returns-else-answer-ne-VENUE_BROKEN : goal.returns-else-answer-ne-VENUE_BROKEN
-returns-else-answer-ne-VENUE_BROKEN c = play_refused c.play-played.ensures c.stop_number-answer.ensures c.if-answer-ne-VENUE_BROKEN.false
+pub returns : goal.returns
+returns c =
+    elim c.if-ne.branch [
+      | then-ne w ↦ play_answered c.play-played.ensures c.stop_number.ensures (λ e. search rules) w.progress-is
+      | else-ne w ↦ play_refused c.play-played.ensures c.stop_number.ensures (search rules) w.progress-is
+    ]

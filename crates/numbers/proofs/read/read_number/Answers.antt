@@ -1,64 +1,20 @@
-use Prim.Native.Nat.{◌+◌, ◌*◌, ◌^◌, ◌<◌}
+-- One group more, behind which the number goes on. Assumes nothing.
 use native.Mathlib.Omega.{arith}
-use mathlib.Core.Path.{◌≡◌, sym, ◌∙◌}
-use lib.ListN.{get_or}
-use Rattle.numbers.specs.declared.Group.TheVariants.{More}
-use Rattle.numbers.specs.SevenBit.{IsByte, judge}
-use Rattle.numbers.proofs.ReadLaws.{reading_start, reading_missing, reading_bad, reading_last, reading_more, last_fits, more_high, more_fits, scale_fits}
+use mathlib.Core.Path.{◌≡◌, sym}
+use lib.ListN.{get_or, length}
+use Prim.Native.Nat.{◌<◌}
+use Rattle.std.proofs.lemmas.Grind.{common_steps}
+use Rattle.numbers.proofs.ReadLaws.{reading_more}
 use Rattle.numbers.proofs.read.read_number.Goals as goal
-use Rattle.numbers.proofs.read.read_number.Goals.{In-Last, In-More}
+use Rattle.numbers.proofs.read.read_number.Goals.{In-Some}
 
-pub loop-i-init : goal.loop-i-init
-loop-i-init c = reading_start _ _
+inside : (c : In-Some) → c.loop-byte.i < length c.args.bytes.now
+inside c = grind (arith, common_steps)
 
--- the last group
+is-byte : (c : In-Some) → c.in-Some.field-0.now ≡ get_or c.args.bytes.now c.loop-byte.i 0
+is-byte c = grind (arith, common_steps)
 
-last_sum : (c : In-Last) → c.loop-i.value + c.loop-i.scale * get_or c.args.bytes.now c.loop-i.i 0 < 2 ^ 64
-last_sum c = last_fits c.loop-i.invariant c.if-i-bytes.false (sym c.group.ensures ∙ c.in-Last.is)
-
-pub overflow_cast-result : goal.overflow_cast-result
-overflow_cast-result c = omega (arith, c.type_inv.bytes c.loop-i.i)
-
-pub overflow_mul-result : goal.overflow_mul-result
-overflow_mul-result c = omega (arith, last_sum (goal.at.overflow_mul-result c).In-Last)
-
-pub overflow_add-result : goal.overflow_add-result
-overflow_add-result c = omega (arith, last_sum (goal.at.overflow_add-result c).In-Last)
-
--- a group with more behind it
-
-byte : (c : In-More) → IsByte (get_or c.args.bytes.now c.loop-i.i 0)
-byte c = (c.shared_slice_known-in-loop-i-1.given c.loop-i.i).fits
-
-is-more : (c : In-More) → judge c.loop-i.before (get_or c.args.bytes.now c.loop-i.i 0) ≡ More
-is-more c = sym c.group.ensures ∙ c.in-More.is
-
-pub overflow_sub-value : goal.overflow_sub-value
-overflow_sub-value c = more_high c.loop-i.invariant c.if-i-bytes.false (is-more (goal.at.overflow_sub-value c).In-More) (byte (goal.at.overflow_sub-value c).In-More)
-
-pub overflow_cast-value : goal.overflow_cast-value
-overflow_cast-value c = omega (arith, byte (goal.at.overflow_cast-value c).In-More)
-
-pub overflow_mul-value : goal.overflow_mul-value
-overflow_mul-value c = omega (arith, more_fits c.loop-i.invariant c.if-i-bytes.false (is-more (goal.at.overflow_mul-value c).In-More) (byte (goal.at.overflow_mul-value c).In-More))
-
-pub overflow_add-value : goal.overflow_add-value
-overflow_add-value c = omega (arith, more_fits c.loop-i.invariant c.if-i-bytes.false (is-more (goal.at.overflow_add-value c).In-More) (byte (goal.at.overflow_add-value c).In-More))
-
-pub overflow_mul-scale : goal.overflow_mul-scale
-overflow_mul-scale c = omega (arith, scale_fits c.loop-i.invariant c.if-i-bytes.false (is-more (goal.at.overflow_mul-scale c).In-More) (byte (goal.at.overflow_mul-scale c).In-More))
-
-pub overflow_add-before : goal.overflow_add-before
-overflow_add-before c = omega (arith, c.loop-i.invariant.few)
-
-pub loop-i-preserved : goal.loop-i-preserved
-loop-i-preserved c = reading_more c.loop-i.invariant c.if-i-bytes.false (is-more (goal.at.loop-i-preserved c).In-More) (byte (goal.at.loop-i-preserved c).In-More)
-
-pub returns-then-i-bytes : goal.returns-then-i-bytes
-returns-then-i-bytes c = sym (reading_missing c.loop-i.invariant c.if-i-bytes.true)
-
-pub returns-in-Bad : goal.returns-in-Bad
-returns-in-Bad c = sym (reading_bad c.loop-i.invariant c.if-i-bytes.false (sym c.group.ensures ∙ c.in-Bad.is))
-
-pub returns-in-Last : goal.returns-in-Last
-returns-in-Last c = sym (reading_last c.loop-i.invariant c.if-i-bytes.false (sym c.group.ensures ∙ c.in-Last.is))
+pub loop-byte-preserved : goal.loop-byte-preserved
+loop-byte-preserved c =
+    let some = (goal.at.loop-byte-preserved c).In-Some in
+    rw c.from-in-More.ensures (reading_more c.loop-byte.invariant (inside some) (is-byte some) (sym c.in-More.ensures) (omega (arith, is-byte some, c.type_inv.bytes c.loop-byte.i)))

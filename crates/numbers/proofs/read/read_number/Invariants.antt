@@ -4,8 +4,8 @@ use lib.ListN.{length}
 use Rattle.numbers.proofs.ReadLaws.{Reading}
 use Rattle.numbers.proofs.read.read_number.Given as goal
 
-abbrev pub invariant-loop-i : goal.invariant-loop-i
-invariant-loop-i l = Reading l.bytes l.at l.value l.scale l.before l.i
+abbrev pub invariant-loop-byte : goal.invariant-loop-byte
+invariant-loop-byte l = Reading l.bytes l.at l.value l.scale l.before l.i
 
-abbrev pub decreases-loop-i : goal.decreases-loop-i
-decreases-loop-i l = length l.bytes - l.i
+abbrev pub decreases-loop-byte : goal.decreases-loop-byte
+decreases-loop-byte l = length l.bytes - l.i

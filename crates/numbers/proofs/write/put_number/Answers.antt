@@ -1,13 +1,10 @@
 use native.Mathlib.Omega.{arith}
-use mathlib.Core.Path.{refl, sym, ◌∙◌}
+use mathlib.Core.Path.{sym, ◌∙◌}
 use borrow.Author.Rules.{rules}
 use Rattle.numbers.proofs.ByteLaws.{length_last, length_more}
 use Rattle.numbers.proofs.PlaceLaws.{overwrite_sets}
 use Rattle.numbers.proofs.WriteLaws.{write_more, write_last}
 use Rattle.numbers.proofs.write.put_number.Goals as goal
-
-pub loop-rest-init : goal.loop-rest-init
-loop-rest-init c = (refl, refl, refl, search rules)
 
 pub bounds-bytes-i : goal.bounds-bytes-i
 bounds-bytes-i c = omega (arith, c.requires, length_more c.loop-rest.rest c.loop-rest-test.true)

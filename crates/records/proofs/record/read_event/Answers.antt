@@ -1,39 +1,62 @@
 -- The kind is judged by the count of its fields. Assumes nothing.
 use native.Mathlib.Omega.{arith}
-use borrow.Author.Tests.{ne_eqb, le-leb, lt-leb}
+use mathlib.Core.Path.{ap}
+use Rattle.std.proofs.Common.{rules}
+use Rattle.std.proofs.lemmas.Result.{err_from_is_err_and}
 use Rattle.numbers.specs.Tests.{pick}
-use Rattle.engine.specs.rules.Records.{record_fields}
+use Rattle.engine.specs.rules.Records.{record_fields, event_of}
+use Rattle.records.specs.RecordAnswers.{event_from}
+use Rattle.records.proofs.ReadingLaws.{single_read, unknown_kind}
 use Rattle.records.proofs.record.read_event.Goals as goal
 
-pub returns-then-kind-eq1 : goal.returns-then-kind-eq1
+pub returns-in_err-x-in-1 : goal.returns-in_err-x-in-1
 unfolding record_fields pick
-returns-then-kind-eq1 c = rw c.if-kind-eq1.true c.read_entry.ensures
+returns-in_err-x-in-1 c =
+    let p = err_from_is_err_and c.from_residual.result c.from_residual.ensures.1 in
+    rw (c.in-1.is, p.1, p.2) (ap (event_from 1) c.in_err-x-in-1.ensures)
 
-pub returns-then-kind-eq6 : goal.returns-then-kind-eq6
+pub returns-in_ok-x-in-1 : goal.returns-in_ok-x-in-1
+unfolding record_fields event_of pick
+returns-in_ok-x-in-1 c = rw (c.in-1.is, c.entry_of.ensures) (ap (event_from 1) c.in_ok-x-in-1.ensures)
+
+pub returns-in-2 : goal.returns-in-2
+unfolding record_fields event_of pick
+returns-in-2 c = rw c.in-2.is (single_read 2 c.read_single.ensures (λ xs e h. search rules))
+
+pub returns-in-3 : goal.returns-in-3
+unfolding record_fields event_of pick
+returns-in-3 c = rw c.in-3.is (single_read 3 c.read_single-in-3.ensures (λ xs e h. search rules))
+
+pub returns-in-4 : goal.returns-in-4
+unfolding record_fields event_of pick
+returns-in-4 c = rw c.in-4.is (single_read 4 c.read_single-in-4.ensures (λ xs e h. search rules))
+
+pub returns-in-5 : goal.returns-in-5
+unfolding record_fields event_of pick
+returns-in-5 c = rw c.in-5.is (single_read 5 c.read_single-in-5.ensures (λ xs e h. search rules))
+
+pub returns-in_err-x-in-6 : goal.returns-in_err-x-in-6
 unfolding record_fields pick
-returns-then-kind-eq6 c = rw c.if-kind-eq6.true c.read_owned_entry.ensures
+returns-in_err-x-in-6 c =
+    let p = err_from_is_err_and c.from_residual-in_err-x-in-6.result c.from_residual-in_err-x-in-6.ensures.1 in
+    rw (c.in-6.is, p.1, p.2) (ap (event_from 6) c.in_err-x-in-6.ensures)
 
-pub returns-then-kind-eq7 : goal.returns-then-kind-eq7
+pub returns-in_ok-x-in-6 : goal.returns-in_ok-x-in-6
+unfolding record_fields event_of pick
+returns-in_ok-x-in-6 c = rw (c.in-6.is, c.entry_of-in-6.ensures) (ap (event_from 6) c.in_ok-x-in-6.ensures)
+
+pub returns-in_err-time-in-7 : goal.returns-in_err-time-in-7
 unfolding record_fields pick
-returns-then-kind-eq7 c = rw c.if-kind-eq7.true c.read_timed_tape.ensures
+returns-in_err-time-in-7 c =
+    let p = err_from_is_err_and c.from_residual-in_err-time-in-7.result c.from_residual-in_err-time-in-7.ensures.1 in
+    rw (c.in-7.is, p.1, p.2) (ap (event_from 7) c.in_err-time-in-7.ensures)
 
-pub returns-then-kind-lt2 : goal.returns-then-kind-lt2
-unfolding record_fields pick
-returns-then-kind-lt2 c =
-    let k = c.args.kind in
-    rw (ne_eqb k 1 c.if-kind-eq1.false, ne_eqb k 6 c.if-kind-eq6.false, ne_eqb k 7 c.if-kind-eq7.false, lt-leb 2 k c.if-kind-lt2.true)
+pub returns-in_ok-time-in-7 : goal.returns-in_ok-time-in-7
+unfolding record_fields event_of pick
+returns-in_ok-time-in-7 c = rw c.in-7.is (ap (event_from 7) c.in_ok-time-in-7.ensures)
 
-pub returns-then-kind-gt5 : goal.returns-then-kind-gt5
-unfolding record_fields pick
-returns-then-kind-gt5 c =
-    let k = c.args.kind in
-    rw (ne_eqb k 1 c.if-kind-eq1.false, ne_eqb k 6 c.if-kind-eq6.false, ne_eqb k 7 c.if-kind-eq7.false, le-leb 2 k c.if-kind-lt2.false, lt-leb k 5 (omega arith))
-
-pub read_single-requires : goal.read_single-requires
-read_single-requires c = (omega (arith, c.if-kind-lt2.false), omega (arith, c.if-kind-gt5.false))
-
-pub returns : goal.returns
-unfolding record_fields pick
-returns c =
-    let k = c.args.kind in
-    rw (ne_eqb k 1 c.if-kind-eq1.false, ne_eqb k 6 c.if-kind-eq6.false, ne_eqb k 7 c.if-kind-eq7.false, le-leb 2 k c.if-kind-lt2.false, le-leb k 5 (omega (arith, c.if-kind-gt5.false))) c.read_single.ensures
+-- Any other kind is refused,
+-- as it has no count of fields:
+-- it is 0, or it is above 7.
+pub returns-in_default : goal.returns-in_default
+returns-in_default c = rw (unknown_kind c.args.kind (omega arith))

@@ -1,23 +1,16 @@
 -- The number at the offset is the kind, and its event is what stands there. Assumes nothing.
-use mathlib.Core.Path.{sym, ap, ◌∙◌}
-use Rattle.numbers.specs.SevenBit.{outcome_of_read}
+use mathlib.Core.Path.{sym}
+use Rattle.std.proofs.lemmas.Result.{err_from_is_err_and}
 use Rattle.engine.specs.rules.Records.{by_kind, form_at, record_at}
 use Rattle.records.proofs.record.read_record.Goals as goal
 
-pub returns-in-MissingByte : goal.returns-in-MissingByte
+pub returns-in_err-kind : goal.returns-in_err-kind
 unfolding record_at form_at by_kind
-returns-in-MissingByte c =
-    let n = sym c.read_number.ensures ∙ ap outcome_of_read c.in-MissingByte.is in
-    rw n
+returns-in_err-kind c =
+    let p = err_from_is_err_and c.from_residual.result c.from_residual.ensures.1 in
+    let n = sym c.in_err-kind.ensures in
+    rw (p.1, p.2, n)
 
-pub returns-in-BadNumber : goal.returns-in-BadNumber
+pub returns : goal.returns
 unfolding record_at form_at by_kind
-returns-in-BadNumber c =
-    let n = sym c.read_number.ensures ∙ ap outcome_of_read c.in-BadNumber.is in
-    rw n
-
-pub returns-in-Value : goal.returns-in-Value
-unfolding record_at form_at by_kind
-returns-in-Value c =
-    let n = sym c.read_number.ensures ∙ ap outcome_of_read c.in-Value.is in
-    rw n c.read_event.ensures
+returns c = let n = sym c.in_ok-kind.ensures in rw n c.read_event.ensures

@@ -1,6 +1,6 @@
--- Each turn goes on in the text.
-use Rattle.std.proofs.Common.{◌-◌, length}
+-- Each question takes a part of the text. Assumes nothing.
+use Rattle.std.proofs.Common.{length}
 use Rattle.vectors.proofs.questions.answer_questions.Given as goal
 
-abbrev pub decreases-loop-at : goal.decreases-loop-at
-decreases-loop-at g l = length l.text - l.at
+abbrev pub decreases-loop-rest : goal.decreases-loop-rest
+decreases-loop-rest g l = length l.rest

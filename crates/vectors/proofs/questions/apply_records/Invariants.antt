@@ -1,6 +1,6 @@
--- Each turn goes on in the stream.
+-- Each record ends behind where it began. Assumes nothing.
 use Rattle.std.proofs.Common.{◌-◌, length}
 use Rattle.vectors.proofs.questions.apply_records.Given as goal
 
-abbrev pub decreases-loop-at : goal.decreases-loop-at
-decreases-loop-at l = length l.stream - l.at
+abbrev pub decreases-loop-event : goal.decreases-loop-event
+decreases-loop-event l = length l.stream - l.next

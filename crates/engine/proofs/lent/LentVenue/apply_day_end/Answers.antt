@@ -1,0 +1,31 @@
+-- A close that is not legal is refused; any other ends the day. Assumes nothing.
+use mathlib.Core.Path.{sym}
+use Rattle.std.proofs.lemmas.Result.{err_from_is_err_and}
+use Rattle.engine.specs.declared.Event.TheVariants.{DayEnd as day_end}
+use Rattle.engine.specs.rules.Refusals.{refusal_of_kind}
+use Rattle.engine.specs.rules.Layout.{venue_of}
+use Rattle.engine.proofs.refinement.RefuseLaws.{words_stepped}
+use Rattle.engine.proofs.refinement.ApplyLaws.{kind_refused, kind_may_accept, kind_has_room, kind_accepted}
+use Rattle.engine.proofs.lent.LentVenue.apply_day_end.Goals as goal
+
+pub check_price-requires : goal.check_price-requires
+check_price-requires c = rw c.view.ensures (words_stepped c.args.self.now.words.now c.requires.0.sound)
+
+pub returns-in_err-check_price-clause-applied : goal.returns-in_err-check_price-clause-applied
+unfolding refusal_of_kind
+returns-in_err-check_price-clause-applied c =
+    let p = err_from_is_err_and c.from_residual.result c.from_residual.ensures.1 in
+    rw (p.1, p.2) (kind_refused (day_end c.args.close) c.requires.0 (sym (rw c.view.ensures at c.in_err-check_price.ensures)))
+
+pub end_day-requires : goal.end_day-requires
+unfolding refusal_of_kind venue_of
+end_day-requires c =
+    let e = day_end c.args.close in
+    let h = sym (rw c.view.ensures at c.in_ok-check_price.ensures) in
+    record { may_accept = kind_may_accept e c.requires.0 h; none_written = c.requires.1; room = kind_has_room e c.requires.0 h c.requires.0.last_id }
+
+pub returns-clause-applied : goal.returns-clause-applied
+unfolding refusal_of_kind
+returns-clause-applied c =
+    let h = sym (rw c.view.ensures at c.in_ok-check_price.ensures) in
+    rw c.byte_count.ensures (kind_accepted (day_end c.args.close) c.requires.0 h c.end_day.ensures.accepts)
