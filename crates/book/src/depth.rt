@@ -29,7 +29,7 @@ fn shares_shown(o: &OrderRecord, price: u32, side: Side) -> u64
     ensures { (result ≡ Depth.shares_shown price side o.now) × (result < 2 ^ 32) }
 {
     if counts(o, price, side) {
-        return o.shares as u64;
+        return u64::from(o.shares);
     }
     0
 }

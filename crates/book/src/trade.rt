@@ -12,9 +12,10 @@ pub fn reduce(o: Order, q: u32) -> Order
     requires { q ≤ o.shares }
     ensures { result ≡ reduced q o }
 {
-    let mut r = o;
-    r.shares = o.shares - q;
-    r
+    Order {
+        shares: o.shares - q,
+        ..o
+    }
 }
 
 // q shares of the order at position i have traded.

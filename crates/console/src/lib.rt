@@ -10,7 +10,7 @@ ghost use Rattle.std.specs.Counts.{IsPrefixLen};
 
 use days::{Stop, play};
 use engine::open;
-pub use line::put_refusal;
+use line::put_refusal;
 use records::{FieldAt, record};
 use std::io;
 use std::io::{BufWriter, Read, Write};
@@ -32,13 +32,6 @@ pub fn read_input<R: Read>(from: &mut R, input: &mut [u8]) -> io::Result<usize>
         count += more;
     }
     Ok(count)
-}
-
-// Plays the first 65,536 bytes of standard input at a step, as programs `venue` and `venue-half` do.
-pub fn play_standard_input(rt: &(impl Input + Print + AllocGlobal), step: u32) -> io::Result<()> {
-    let mut input = [0u8; 65536];
-    let count = read_input(&mut rt.reader(), &mut input)?;
-    print_stream(rt, step, &input[..count])
 }
 
 // Plays one input and prints its lines, gathered in a buffer; where no memory is left for one, each piece is printed by itself.

@@ -30,7 +30,7 @@ impl LentVenue<'_> {
         ensures same_loans { SameLoans self.old self.new }
         ensures reported { Reported self.old self.new (kinds.accepted id stamp price) }
     {
-        let numbers = [1, id as u64, stamp as u64, price as u64];
+        let numbers = [1, u64::from(id), u64::from(stamp), u64::from(price)];
         self.end = write::put_numbers(self.buffer, self.end, &numbers);
     }
 
@@ -39,7 +39,13 @@ impl LentVenue<'_> {
         ensures same_loans { SameLoans self.old self.new }
         ensures reported { Reported self.old self.new (kinds.executed (record { buyer = buyer; seller = seller; price = price; shares = shares })) }
     {
-        let numbers = [2, buyer as u64, seller as u64, price as u64, shares as u64];
+        let numbers = [
+            2,
+            u64::from(buyer),
+            u64::from(seller),
+            u64::from(price),
+            u64::from(shares),
+        ];
         self.end = write::put_numbers(self.buffer, self.end, &numbers);
     }
 
@@ -48,7 +54,12 @@ impl LentVenue<'_> {
         ensures same_loans { SameLoans self.old self.new }
         ensures reported { Reported self.old self.new (kinds.cancelled id shares (kinds.cause_number cause)) }
     {
-        let numbers = [3, id as u64, shares as u64, u32::from(cause) as u64];
+        let numbers = [
+            3,
+            u64::from(id),
+            u64::from(shares),
+            u64::from(u32::from(cause)),
+        ];
         self.end = write::put_numbers(self.buffer, self.end, &numbers);
     }
 
@@ -57,7 +68,7 @@ impl LentVenue<'_> {
         ensures same_loans { SameLoans self.old self.new }
         ensures reported { Reported self.old self.new (kinds.repriced id price stamp) }
     {
-        let numbers = [4, id as u64, price as u64, stamp as u64];
+        let numbers = [4, u64::from(id), u64::from(price), u64::from(stamp)];
         self.end = write::put_numbers(self.buffer, self.end, &numbers);
     }
 
@@ -75,7 +86,7 @@ impl LentVenue<'_> {
         ensures same_loans { SameLoans self.old self.new }
         ensures reported { Reported self.old self.new (kinds.day_ended phase) }
     {
-        let numbers = [6, phase as u64];
+        let numbers = [6, u64::from(phase)];
         self.end = write::put_numbers(self.buffer, self.end, &numbers);
     }
 
@@ -84,7 +95,7 @@ impl LentVenue<'_> {
         ensures same_loans { SameLoans self.old self.new }
         ensures reported { Reported self.old self.new (kinds.pause_triggered direction price) }
     {
-        let numbers = [7, direction as u64, price as u64];
+        let numbers = [7, u64::from(direction), u64::from(price)];
         self.end = write::put_numbers(self.buffer, self.end, &numbers);
     }
 }

@@ -5,13 +5,13 @@ use native.Mathlib.Numerals.{add-one}
 use native.Mathlib.Decide.{dec_lt}
 use native.Mathlib.Omega.{arith}
 use mathlib.Core.Path.{◌≡◌, refl, sym, ap, ap₂, ◌∙◌, subst}
-use mathlib.Core.Bool.{not, ◌&&◌}
+use mathlib.Core.Bool.{Bool, true, false, not, ◌&&◌}
 use mathlib.Core.Logic.{◌⊎◌, inl, inr}
 use mathlib.Core.List.{List, [], ◌∷◌, ◌++◌}
 use lib.Dec.{T, leb, ltb, eqb, leb→le, nleb→lt}
 use lib.ListN.{length, get_or, drop, length-append, length-drop, drop_of_length-le}
 use lib.Seq.{drop-append_seam, drop-drop, drop-cons}
-use borrow.Author.Tests.{le-ltb, le-leb, lt-leb, ne_eqb}
+use borrow.Author.Tests.{le-ltb, lt-ltb, le-leb, lt-leb, ne_eqb}
 use Rattle.numbers.specs.Tests.{pick, All}
 use Rattle.numbers.specs.Answers.{Outcome, gives, refuses, Read}
 use Rattle.numbers.specs.declared.read.Group.{Group}
@@ -35,6 +35,14 @@ judge_last (suc k) b h l p = simp (ne_eqb (suc k) 9 h, lt-leb 128 b l, ne_eqb b 
 pub judge_tenth : (b : ℕ) → b < 2 → 0 < b → judge 9 b ≡ Last
 unfolding judge pick
 judge_tenth b l p = simp (le-ltb 1 b (omega arith), lt-leb 128 b (omega arith), ne_eqb b 0 (λ e. omega arith))
+
+pub judge_zero : (k : ℕ) → 0 < k → judge k 0 ≡ Bad
+unfolding judge pick
+judge_zero k p = by_nine (eqb k 9)
+  where
+    by_nine : (t : Bool) → pick (t && false) Bad (pick false More (pick (ltb 0 k && true) Bad Last)) ≡ Bad
+    by_nine true = simp (lt-ltb 0 k p)
+    by_nine false = simp (lt-ltb 0 k p)
 
 -- a number that was read, with its end
 abbrev pub number : ℕ → ℕ → Outcome (Read ℕ)

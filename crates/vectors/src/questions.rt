@@ -8,6 +8,11 @@ use records::{EventAt, FieldAt, record};
 use std::io;
 use std::io::Write;
 
+// The line of a refusal.
+fn print_refusal(out: &mut impl Write, number: u32) -> io::Result<()> {
+    writeln!(out, "0 {number}")
+}
+
 // The decimal number at the front of a text, and the text behind the byte that ends it. No digit counts as 0, and a number of over 32 bits as the highest
 // of them.
 fn split_decimal(text: &[u8]) -> (u32, &[u8])
@@ -37,7 +42,7 @@ fn answer_question(
     match fill::would_fill(words, mark, price, shares) {
         Ok(FrontRead { fills: true, read }) => writeln!(out, "1 {read}"),
         Ok(FrontRead { fills: false, read }) => writeln!(out, "2 {read}"),
-        Err(refusal) => console::put_refusal(out, u32::from(refusal)),
+        Err(refusal) => print_refusal(out, u32::from(refusal)),
     }
 }
 
@@ -76,7 +81,7 @@ fn ask_after(
             apply_records(&mut words, stream, close.end);
             answer_questions(&words, questions, out)
         }
-        Err(refusal) => console::put_refusal(out, u32::from(refusal)),
+        Err(refusal) => print_refusal(out, u32::from(refusal)),
     }
 }
 
@@ -84,6 +89,6 @@ fn ask_after(
 pub fn ask(step: u32, stream: &[u8], questions: &[u8], out: &mut impl Write) -> io::Result<()> {
     match record::read_field(stream, 0) {
         Ok(close) => ask_after(step, stream, close, questions, out),
-        Err(refusal) => console::put_refusal(out, u32::from(refusal)),
+        Err(refusal) => print_refusal(out, u32::from(refusal)),
     }
 }

@@ -5,5 +5,7 @@ use prices::increments;
 use std::io;
 
 fn main(rt: HostRuntime) -> io::Result<()> {
-    console::play_standard_input(&rt, increments::CENT)
+    let mut input = [0u8; 65536];
+    let count = console::read_input(&mut rt.reader(), &mut input)?;
+    console::print_stream(&rt, increments::CENT, &input[..count])
 }
