@@ -6,6 +6,19 @@ Of the files as they stand here, or of a commit. It finds forms by their text, a
 import collections, re, subprocess, sys
 
 
+# the forms that one line shows
+LINES = {
+    "1 enums": r"\benum \w+",
+    "1 numbers for kinds (parameters and fields)": r"\b(kind|mark|show|life|slide|phase|cause|direction|side): u\d+",
+    "1 flags in structs": r"^\s+(pub )?\w+: bool,",
+    "3 loops by while and loop": r"\b(while|loop)\b",
+    "4 conversions and tests by hand (functions)": r"\bfn (\w+_number|number_of|\w+_code|\w*word_of|wide|flag_word|record_of|side_of|\w+_answer|digit_of|is_half_cent|is_questions)\b",
+    "4 casts": r" as [ui](\d+|size)\b",
+    "6 arrays": r"= \[[^;\]]+; \w+\];|-> \[\w+; \w+\]",
+    "7 tests against a number": r"\bif \w+(\.\w+)? == \d+ \{",
+}
+
+
 def sources(commit):
     """The files of crates/*/src and crates/*/proofs with their text."""
     if commit:
@@ -49,22 +62,9 @@ def main():
             continue
         for at, line in code(text):
             where = f"{name}:{at}: {line.strip()}"
-            if re.search(r"\benum \w+", line):
-                forms["1 enums"].append(where)
-            if re.search(r"\b(kind|mark|show|life|slide|phase|cause|direction|side): u\d+", line):
-                forms["1 numbers for kinds (parameters and fields)"].append(where)
-            if re.match(r"\s+(pub )?\w+: bool,", line):
-                forms["1 flags in structs"].append(where)
-            if re.search(r"\b(while|loop)\b", line):
-                forms["3 loops by while and loop"].append(where)
-            if re.search(r"\bfn (\w+_number|number_of|\w+_code|\w*word_of|wide|flag_word|record_of|side_of|\w+_answer|digit_of|is_half_cent|is_questions)\b", line):
-                forms["4 conversions and tests by hand (functions)"].append(where)
-            if re.search(r" as [ui](\d+|size)\b", line):
-                forms["4 casts"].append(where)
-            if re.search(r"= \[[^;\]]+; \w+\];|-> \[\w+; \w+\]", line):
-                forms["6 arrays"].append(where)
-            if re.search(r"\bif \w+(\.\w+)? == \d+ \{", line):
-                forms["7 tests against a number"].append(where)
+            for what, pattern in LINES.items():
+                if re.search(pattern, line):
+                    forms[what].append(where)
         for function, parameters, asked in functions(text):
             for fact in set(asked):
                 facts[re.sub(r"\.(now|old|entry)\b", "", fact)].append(f"{name}: {function}")
