@@ -58,8 +58,9 @@ fn play_close<W: Write>(step: u32, input: &[u8], out: &mut W) -> io::Result<()> 
 
 // Opens the venue and plays the records behind the close.
 fn play_day<W: Write>(step: u32, input: &[u8], close: FieldAt, out: &mut W) -> io::Result<()> {
-    match open::open(step, close.value) {
-        Ok(mut words) => play_records(&mut words, input, close.end, out),
+    let mut opened = open::open(step, close.value);
+    match opened.answer {
+        Ok(()) => play_records(&mut opened.words, input, close.end, out),
         Err(refusal) => put_refusal(out, u32::from(refusal)),
     }
 }

@@ -17,6 +17,7 @@ mod slide;
 mod timed;
 mod working;
 
+use book::words;
 use prices::TimedPrice;
 
 // The close, the phase of the restriction, the national bid and the step of prices from the dollar border up. The phase stays a number: the words that
@@ -135,4 +136,11 @@ pub enum CopyError {
     RunTooShort,
     // the words break a condition of a venue record
     VenueBroken,
+}
+
+// What open gives: whether there is a venue, or why not, and its words, which are all 0 where there is none.
+#[derive(Clone, Copy)]
+pub struct Opened {
+    pub answer: Result<(), Refusal>,
+    pub words: [u32; words::VENUE],
 }

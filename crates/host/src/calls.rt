@@ -31,12 +31,14 @@ pub fn venue_open(words: &mut [u32], step: u32, close: u32) -> u32
     if words.len() < words::VENUE {
         return refused(u32::from(Refusal::VenueBroken));
     }
-    match open::open(step, close) {
-        Ok(fresh) => {
-            words[..fresh.len()].copy_from_slice(&fresh);
+    let opened = open::open(step, close);
+    match opened.answer {
+        Ok(()) => {
+            let fresh = &opened.words;
+            words[..fresh.len()].copy_from_slice(fresh);
             0
         }
-        Err(refusal) => refused(u32::from(refusal)),
+        Err(not_opened) => refused(u32::from(not_opened)),
     }
 }
 

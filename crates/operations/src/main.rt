@@ -119,16 +119,11 @@ fn enter(words: &mut [u32], id: u32, mark: u32, price: u32, shares: u32, show: u
     send(words, Event::Entry(entry(id, mark, price, shares, show)));
 }
 
-// The words of a venue at a step and a close that are open to none of the refusals.
-fn fresh_words() -> [u32; words::VENUE] {
-    open::open(100, 100_000).unwrap()
-}
-
 // Copies of an empty book, of three orders, one of them with an owner, of a market short (price 0) too, of six orders, which the run of four is too short for,
 // and of words that are no venue.
 fn copies(rt: &impl Print) -> io::Result<[OrderRecord; 4]> {
     println!(rt; "copy out")?;
-    let mut words = fresh_words();
+    let mut words = open::open(100, 100_000).words;
     try_copy(rt, &words)?;
     send(&mut words, Event::Bid(91_000));
     send(&mut words, Event::Tape(90_000));

@@ -61,9 +61,9 @@ fn answer_questions(words: &[u32], questions: &[u8], out: &mut impl Write) -> io
 
 // Applies the events from an offset on, up to where no record can be read.
 fn apply_records(words: &mut [u32], stream: &[u8], from: usize) {
+    let mut reports = [0u8; 16384];
     let mut next = from;
     while let Ok(EventAt { event, end }) = record::read_record(stream, next) {
-        let mut reports = [0u8; 16384];
         let _ = apply::apply(words, event, &mut reports);
         next = end;
     }
@@ -76,10 +76,11 @@ fn ask_after(
     questions: &[u8],
     out: &mut impl Write,
 ) -> io::Result<()> {
-    match open::open(step, close.value) {
-        Ok(mut words) => {
-            apply_records(&mut words, stream, close.end);
-            answer_questions(&words, questions, out)
+    let mut opened = open::open(step, close.value);
+    match opened.answer {
+        Ok(()) => {
+            apply_records(&mut opened.words, stream, close.end);
+            answer_questions(&opened.words, questions, out)
         }
         Err(refusal) => print_refusal(out, u32::from(refusal)),
     }

@@ -3,7 +3,7 @@ use Prim.Native.Nat.{ℕ}
 use native.Mathlib.Omega.{arith}
 use mathlib.Core.Path.{◌≡◌, refl, sym, ap, ◌∙◌, subst}
 use mathlib.Core.Bool.{not, ◌&&◌}
-use Rattle.std.specs.Prelude.{Result, Ok, Err}
+use Rattle.std.specs.Prelude.{Ok, Err}
 use mathlib.Core.List.{List, [], ◌++◌, append-nil}
 use lib.Dec.{T, not_T}
 use lib.ListN.{length, set, replicate, length-append, length-replicate, length-set}
@@ -11,7 +11,7 @@ use Rattle.numbers.specs.Answers.{Outcome, gives, refuses}
 use Rattle.numbers.proofs.TestLaws.{by_test, T_and, pick_yes, pick_no}
 use Rattle.prices.specs.Prices.{is_step, legal, at_step, price_of}
 use Rattle.prices.proofs.KeptWordLaws.{kept_none}
-use Rattle.prices.proofs.PriceLaws.{price_given, price_refusal}
+use Rattle.prices.proofs.PriceLaws.{price_given, price_refused, price_refusal}
 use Rattle.book.specs.rules.Words.{book_words, venue_words, layout_number, layout_word, is_book}
 use Rattle.book.proofs.refinement.WordLaws.{resting_tabulate, is_book-laid_out, laid_out-is_book}
 use Rattle.engine.specs.declared.Event.{Event}
@@ -102,15 +102,12 @@ not_opened s close t e n = rw (opened_no s close t) (ap (λ (r : Step). r.answer
 
 -- what open answers and leaves
 
-pub opens_yes : (s close p : ℕ) → gives p ≡ price_of s close → Opens s close (Ok (fresh_words s p))
-opens_yes s close p e =
+pub opens_yes : (s close p : ℕ) (u : Unit {0}) → gives p ≡ price_of s close → Opens s close (Ok u) (fresh_words s p)
+opens_yes s close p u e =
     let (i, t, q) = price_given s close p e in
-    subst (λ (x : ℕ). Opens s close (Ok (fresh_words s x))) (sym q) (record { answers = ap gives (fresh_none s close) ∙ sym (opening_gives s close i t); is = λ words h. let z : fresh_words s close ≡ words = cc in sym z ∙ sym (opened_yes s close i t) })
+    subst (λ (x : ℕ). Opens s close (Ok u) (fresh_words s x)) (sym q) (record { answers = ap gives (fresh_none s close) ∙ sym (opening_gives s close i t); is = sym (opened_yes s close i t) })
 
-pub opens_no : (s close : ℕ) (r : Refusal) → refuses (refusal_number r) ≡ price_of s close → Opens s close (Err r)
+pub opens_no : (s close : ℕ) (r : Refusal) → refuses (refusal_number r) ≡ price_of s close → Opens s close (Err r) (replicate venue_words 0)
 unfolding opening
 opens_no s close r e =
-    record { answers = price_refusal s (opened s close) close e; is = λ words h. absurd (never h) }
-  where
-    never : {words : List ℕ} → ◌≡◌ {A = Result (List ℕ) Refusal} (Err r) (Ok words) → ⊥
-    never e = let z : ◌≡◌ {A = ℕ} 0 1 = cc in omega arith
+    record { answers = price_refusal s (opened s close) close e; is = sym (opened_no s close (price_refused s close (refusal_number r) e)) }

@@ -1,5 +1,5 @@
 -- The calls of open and apply: what they answer and leave, chains of calls, and what holds of every chain. Assumes nothing.
-use Rattle.std.specs.Prelude.{ℕ, ◌≤◌, ◌<◌, ◌≡◌, List, [], ◌∷◌, map, T, length, get_or, take, Result, Ok}
+use Rattle.std.specs.Prelude.{ℕ, ◌≤◌, ◌<◌, ◌≡◌, List, [], ◌∷◌, map, T, length, get_or, take, Result}
 use Rattle.std.proofs.Math.Option.{Option, none as nothing, some}
 use Rattle.numbers.specs.Tests.{All}
 use Rattle.numbers.specs.Answers.{Outcome, gives, refuses}
@@ -20,10 +20,9 @@ use Rattle.engine.specs.rules.Layout.{venue_of, outcome_of_open, opened_words, s
 
 -- Open
 
--- the answer, and the words where a venue is made
-pub record Opens (s close : ℕ) (answer : Result (List ℕ) Refusal) : Type 0 where
-  pub answers : outcome_of_open answer ≡ opening s close
-  pub is : (words : List ℕ) → answer ≡ Ok words → words ≡ opened_words s close
+pub record Opens (s close : ℕ) (answer : Result (Unit {0}) Refusal) (words : List ℕ) : Type 0 where
+  pub answers : outcome_of_open answer words ≡ opening s close
+  pub is : words ≡ opened_words s close
 
 -- Apply
 

@@ -29,9 +29,9 @@ unfoldable pub sound_words : List ℕ → Bool
 sound_words w = is_book w && sound (venue_of w)
 
 -- the paper's terms for the answer of open, whose words are the venue
-abbrev pub outcome_of_open : Result (List ℕ) Refusal → Outcome Venue
-outcome_of_open (Ok words) = gives (venue_of words)
-outcome_of_open (Err r) = refuses (refusal_number r)
+abbrev pub outcome_of_open : Result (Unit {0}) Refusal → List ℕ → Outcome Venue
+outcome_of_open (Ok _) words = gives (venue_of words)
+outcome_of_open (Err r) words = refuses (refusal_number r)
 
 -- the words of a fresh venue, 0 but for the close, the step s and the number of the layout; all 0 where no venue is made
 abbrev pub fresh_words : ℕ → ℕ → List ℕ

@@ -64,23 +64,27 @@ unfolding opened_words
 opened_length s close =
     by_test (λ (w : List ℕ). length w ≡ venue_words) (is_step s && legal s close) (λ t. fresh_length s close) (λ t. length-replicate {A = ℕ} venue_words 0)
 
-pub opens_length : {s close : ℕ} {words : List ℕ} → Opens s close (Ok words) → length words ≡ venue_words
-opens_length {s} {close} {words} o = ap length (o.is words refl) ∙ opened_length s close
+pub opens_length : {s close : ℕ} {answer : Result (Unit {0}) Refusal} {words : List ℕ} → Opens s close answer words → length words ≡ venue_words
+opens_length {s} {close} o = ap length o.is ∙ opened_length s close
 
 pub open_short : (w : List ℕ) (s close : ℕ) {n : ℕ} → length w < venue_words → n ≡ host_answer (refuses 16) → HostOpened w s close n w
 unfolding host_opening pick
 open_short w s close l k = let e = lt-leb venue_words (length w) l in record { answers = rw e k; leaves = rw e }
 
-module _ (w : List ℕ) {s close : ℕ} (l : venue_words ≤ length w) where
-  pub open_refused : {r : Refusal} {n : ℕ} → Opens s close (Err r) → n ≡ host_answer (refuses (refusal_number r)) → HostOpened w s close n w
+module _ (w : List ℕ) {s close : ℕ} {words : List ℕ} {answer : Result (Unit {0}) Refusal} (l : venue_words ≤ length w) (o : Opens s close answer words) where
+  pub open_refused : {r : Refusal} {n : ℕ} → answer ≡ Err r → n ≡ host_answer (refuses (refusal_number r)) → HostOpened w s close n w
   unfolding host_opening pick
-  open_refused o k = let e = le-leb venue_words (length w) l in record { answers = rw (e, ← o.answers) k; leaves = rw (e, ← o.answers) }
-
-  pub open_fresh : {words w' : List ℕ} → Opens s close (Ok words) → w' ≡ words ++ drop (length words) w → HostOpened w s close 0 w'
-  unfolding host_opening pick
-  open_fresh {words} o k =
+  open_refused {r} {n} h k =
       let e = le-leb venue_words (length w) l in
-      record { answers = rw (e, ← o.answers); leaves = rw (e, ← o.answers) (k ∙ rw (opens_length o, o.is words refl)) }
+      let f : refuses (refusal_number r) ≡ opening s close = rw h at o.answers in
+      record { answers = rw (e, ← f) k; leaves = rw (e, ← f) }
+
+  pub open_fresh : {u : Unit {0}} {w' : List ℕ} → answer ≡ Ok u → w' ≡ words ++ drop (length words) w → HostOpened w s close 0 w'
+  unfolding host_opening pick
+  open_fresh h k =
+      let e = le-leb venue_words (length w) l in
+      let f : gives (venue_of words) ≡ opening s close = rw h at o.answers in
+      record { answers = rw (e, ← f); leaves = rw (e, ← f) (k ∙ rw (opens_length o, o.is)) }
 
 -- venue_apply
 

@@ -1,14 +1,16 @@
 -- `open` by whether the close is taken as a price. Assumes nothing.
-use mathlib.Core.Path.{ap, ◌∙◌}
-use Rattle.numbers.specs.Answers.{refuses}
-use Rattle.std.proofs.lemmas.Result.{err_from_is_err_and}
+use mathlib.Core.Path.{sym, ap, ◌∙◌}
+use Rattle.std.specs.Prelude.{Err}
+use Rattle.prices.specs.Prices.{outcome_of_price}
+use Rattle.engine.specs.declared.Refusal.TheVariants.{PriceNotLegal, NotStep}
 use Rattle.engine.proofs.refinement.OpeningLaws.{opens_yes, opens_no}
 use Rattle.engine.proofs.open.open.Goals as goal
 
-pub returns-in_err-price : goal.returns-in_err-price
-returns-in_err-price c =
-    let p = err_from_is_err_and c.from_residual.result c.from_residual.ensures.1 in
-    rw p.1 (opens_no _ _ _ (ap refuses p.2 ∙ c.in_err-price.ensures))
+pub returns-in-Ok : goal.returns-in-Ok
+returns-in-Ok c = opens_yes _ _ _ _ c.in-Ok.ensures
 
-pub returns : goal.returns
-returns c = opens_yes _ _ _ c.in_ok-price.ensures
+pub returns-in-Err-NotLegal : goal.returns-in-Err-NotLegal
+returns-in-Err-NotLegal c = let e = c.in-Err-NotLegal in opens_no _ _ PriceNotLegal (sym (ap outcome_of_price (e.is ∙ ap Err e.field-0-is)) ∙ c.new.ensures)
+
+pub returns-in-Err-NotStep : goal.returns-in-Err-NotStep
+returns-in-Err-NotStep c = let e = c.in-Err-NotStep in opens_no _ _ NotStep (sym (ap outcome_of_price (e.is ∙ ap Err e.field-0-is)) ∙ c.new.ensures)

@@ -1,12 +1,10 @@
 -- The answer of apply as a number; its byte count fits. Assumes nothing.
-use Prim.Native.Nat.{ℕ}
 use native.Mathlib.Omega.{arith}
-use mathlib.Core.Path.{refl, ap, ◌∙◌}
+use mathlib.Core.Path.{refl}
 use Rattle.std.specs.Prelude.{Ok}
 use Rattle.numbers.specs.Answers.{gives, refuses}
 use Rattle.engine.specs.rules.Answers.{refusal_number}
 use Rattle.engine.proofs.refinement.AnswerLaws.{refusal_range}
-use Rattle.host.specs.rules.Host.{host_answer}
 use Rattle.host.proofs.refinement.HostLaws.{applied_fits, event_applied}
 use Rattle.host.proofs.calls.apply_event.Goals as goal
 
@@ -27,5 +25,5 @@ returns-in-Err c =
     event_applied
     (refuses (refusal_number c.in-Err.refusal))
     (refusal_range c.in-Err.refusal).0
-    (c.refused.ensures ∙ ap (λ (n : ℕ). host_answer (refuses n)) c.from.ensures)
+    (omega (arith, c.refused.ensures, c.from.ensures))
     c.in-Err.ensures

@@ -1,10 +1,7 @@
 -- A record that can't be read is refused; the event of any other is applied. Assumes nothing.
-use Prim.Native.Nat.{ℕ}
 use native.Mathlib.Omega.{arith}
-use mathlib.Core.Path.{sym, ap, ◌∙◌}
+use mathlib.Core.Path.{sym}
 use Rattle.records.proofs.ReadingLaws.{read_words}
-use Rattle.numbers.specs.Answers.{refuses}
-use Rattle.host.specs.rules.Host.{host_answer}
 use Rattle.host.proofs.refinement.HostLaws.{read_refusal_range, apply_refused, apply_read}
 use Rattle.host.proofs.calls.venue_apply.Goals as goal
 
@@ -22,4 +19,4 @@ pub returns-in-Err : goal.returns-in-Err
 returns-in-Err c =
     apply_refused _ _ _ c.in-Err.unreadable
     (sym c.in-Err.ensures)
-    (c.refused.ensures ∙ ap (λ (n : ℕ). host_answer (refuses n)) c.from.ensures)
+    (omega (arith, c.refused.ensures, c.from.ensures))

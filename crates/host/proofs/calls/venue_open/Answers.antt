@@ -15,14 +15,14 @@ returns-then-words-lt-VENUE c =
     open_short _ _ _ (search rules) (c.refused.ensures ∙ ap (λ (n : ℕ). host_answer (refuses n)) c.from.ensures)
 
 pub copy_from_slice-requires : goal.copy_from_slice-requires
-copy_from_slice-requires c = omega (arith, length-take-le 4880 c.args.words.now c.if-words-lt-VENUE.false, opens_length c.in-Ok.ensures)
+copy_from_slice-requires c = omega (arith, length-take-le 4880 c.args.words.now c.if-words-lt-VENUE.false, opens_length c.open-opened.ensures)
 
 pub returns-in-Ok : goal.returns-in-Ok
-returns-in-Ok c = open_fresh _ (search rules) c.in-Ok.ensures (rw (c.copy_from_slice.ensures.after, opens_length c.in-Ok.ensures))
+returns-in-Ok c = open_fresh _ (search rules) c.open-opened.ensures c.in-Ok.is (rw (c.copy_from_slice.ensures.after, opens_length c.open-opened.ensures))
 
 pub refused-requires-in-Err : goal.refused-requires-in-Err
-refused-requires-in-Err c = omega (arith, c.from-in-Err.ensures, refusal_range c.in-Err.refusal)
+refused-requires-in-Err c = omega (arith, c.from-in-Err.ensures, refusal_range c.in-Err.not_opened)
 
 pub returns-in-Err : goal.returns-in-Err
 returns-in-Err c =
-    open_refused _ (search rules) c.in-Err.ensures (c.refused-in-Err.ensures ∙ ap (λ (n : ℕ). host_answer (refuses n)) c.from-in-Err.ensures)
+    open_refused _ (search rules) c.open-opened.ensures c.in-Err.is (c.refused-in-Err.ensures ∙ ap (λ (n : ℕ). host_answer (refuses n)) c.from-in-Err.ensures)

@@ -1,8 +1,7 @@
 -- The answer of would_fill as a number. Assumes nothing.
-use Prim.Native.Nat.{ℕ}
 use native.Mathlib.Omega.{arith}
 use mathlib.Core.Path.{◌∙◌, ap, sym, subst}
-use Rattle.numbers.specs.Answers.{Outcome, refuses}
+use Rattle.numbers.specs.Answers.{Outcome}
 use Rattle.book.specs.declared.FrontRead.{FrontRead}
 use Rattle.engine.specs.claims.Fill.{FillFits}
 use Rattle.engine.proofs.refinement.AnswerLaws.{refusal_range}
@@ -22,6 +21,4 @@ refused-requires c = omega (arith, c.from.ensures, refusal_range c.in-Err.refusa
 
 pub returns-in-Err : goal.returns-in-Err
 returns-in-Err c =
-    c.refused.ensures
-    ∙ ap (λ (n : ℕ). host_answer (refuses n)) c.from.ensures
-    ∙ ap (λ (o : Outcome FrontRead). host_answer (fill_count o)) c.in-Err.ensures
+    omega (arith, c.refused.ensures, c.from.ensures, ap (λ (o : Outcome FrontRead). host_answer (fill_count o)) c.in-Err.ensures)

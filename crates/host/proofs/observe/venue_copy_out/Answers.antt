@@ -1,8 +1,6 @@
 -- Copy out fills at most 256 records, so its count is an answer. Assumes nothing.
 use native.Mathlib.Omega.{arith}
-use Prim.Native.Nat.{ℕ}
-use mathlib.Core.Path.{sym, subst, ap, ◌∙◌}
-use Rattle.numbers.specs.Answers.{refuses}
+use mathlib.Core.Path.{sym, subst, ap}
 use Rattle.host.specs.rules.Host.{host_answer}
 use lib.ListN.{length}
 use Rattle.host.specs.claims.Calls.{AnswerFits}
@@ -16,4 +14,4 @@ overflow_cast-result c =
 
 pub returns-in-Err : goal.returns-in-Err
 returns-in-Err c =
-    (c.refused.ensures ∙ ap (λ (n : ℕ). host_answer (refuses n)) c.from.ensures ∙ ap host_answer c.in-Err.ensures.0, c.in-Err.ensures.1)
+    (omega (arith, c.refused.ensures, c.from.ensures, ap host_answer c.in-Err.ensures.0), c.in-Err.ensures.1)

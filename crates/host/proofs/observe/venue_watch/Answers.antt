@@ -1,7 +1,7 @@
 -- A refusal's number, and 0 for a record that is up to date. Assumes nothing.
-use Prim.Native.Nat.{ℕ}
-use mathlib.Core.Path.{ap, ◌∙◌}
-use Rattle.numbers.specs.Answers.{Outcome, refuses}
+use native.Mathlib.Omega.{arith}
+use mathlib.Core.Path.{ap}
+use Rattle.numbers.specs.Answers.{Outcome}
 use Rattle.host.specs.rules.Host.{host_answer}
 use Rattle.host.specs.rules.Observe.{watch_count}
 use Rattle.host.proofs.observe.venue_watch.Goals as goal
@@ -11,4 +11,4 @@ returns-in-Ok c = (ap (λ (o : Outcome (Unit {0})). host_answer (watch_count o))
 
 pub returns-in-Err : goal.returns-in-Err
 returns-in-Err c =
-    (c.refused.ensures ∙ ap (λ (n : ℕ). host_answer (refuses n)) (c.from-in-Err.ensures ∙ c.from.ensures) ∙ ap (λ (o : Outcome (Unit {0})). host_answer (watch_count o)) c.in-Err.ensures.0, c.in-Err.ensures.1)
+    (omega (arith, c.refused.ensures, c.from-in-Err.ensures, c.from.ensures, ap (λ (o : Outcome (Unit {0})). host_answer (watch_count o)) c.in-Err.ensures.0), c.in-Err.ensures.1)
