@@ -1,9 +1,10 @@
-// Numbers in the seven-bit form: the lowest layer.
+// Numbers in the seven-bit form, and the larger and smaller of two: the lowest layer.
 #![tactic(auto)]
 
 mod count;
 pub mod read;
+pub mod sizes;
 pub mod write;
 
-pub use read::{NumberAt, NumberError};
+pub use read::{Group, NumberAt, NumberError};
 pub use write::NoRoom;

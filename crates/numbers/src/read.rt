@@ -18,7 +18,7 @@ pub enum NumberError {
 
 // What a byte is as a group of a number: one with more groups behind it, the last one, or none that is allowed there.
 #[derive(Clone, Copy, Debug, PartialEq, Eq)]
-enum Group {
+pub enum Group {
     More,
     Last,
     Bad,
