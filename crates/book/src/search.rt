@@ -8,6 +8,7 @@ ghost use Rattle.book.specs.steps.WordSteps.{place_in};
 ghost use Rattle.book.specs.steps.Positions.{rank_of, Found, IsIdAt, IsGapFor};
 
 use crate::{BookView, words};
+use std::cmp::Ordering;
 
 impl<'a> BookView<'a> {
     // The id of the order at position i.
@@ -31,8 +32,28 @@ impl<'a> BookView<'a> {
         ensures found { IfOk result (IsIdAt id (resting self.entry.words.now)) }
         ensures absent { IfErr result (IsGapFor id (resting self.entry.words.now)) }
     {
-        self.used()
-            .binary_search_by_key(&id, |place| place[words::ID])
+        // by hand: with binary_search_by_key a find among 64 orders takes 0.6 to 1.6 of plain Rust's time, by where the linker puts the loop
+        let mut places = self.used();
+        if places.is_empty() {
+            return Err(0);
+        }
+        // how many orders stand before the first of places
+        let mut before = 0;
+        while places.len() > 1 {
+            let half = places.len() / 2;
+            if places[half][words::ID] <= id {
+                places = &places[half..];
+                before += half;
+            } else {
+                // as many places either way: of an odd number the middle one stays
+                places = &places[..places.len() - half];
+            }
+        }
+        match places[0][words::ID].cmp(&id) {
+            Ordering::Equal => Ok(before),
+            Ordering::Less => Err(before + 1),
+            Ordering::Greater => Err(before),
+        }
     }
 
     // How many orders stand before the first with a greater id, for an id that is likely above all others.

@@ -2,7 +2,7 @@
 use Prim.Native.Nat.{ℕ, zero, suc, ◌+◌, ◌-◌, ◌≤◌, ◌<◌}
 use native.Mathlib.Numerals.{add-one}
 use native.Mathlib.Omega.{arith}
-use mathlib.Core.Path.{◌≡◌, refl, ap, ap₂, ◌∙◌}
+use mathlib.Core.Path.{◌≡◌, refl, sym, ap, ap₂, ◌∙◌}
 use mathlib.Core.Bool.{Bool, true, false}
 use mathlib.Core.List.{List, [], ◌∷◌}
 use lib.Dec.{leb, leb→le, le→leb}
@@ -14,6 +14,7 @@ use Rattle.numbers.proofs.TestLaws.{bool_ext}
 use Rattle.book.specs.declared.Order.{Order}
 use Rattle.book.specs.declared.FrontRead.{FrontRead}
 use Rattle.book.specs.rules.Fill.{shares_reached, all_reached, suffices, least_below, front_length, front_read}
+use Rattle.book.specs.rules.Matching.{reaches}
 use Rattle.book.specs.rules.Words.{empty_order}
 
 -- reading order by order: n shares are missing, i orders were read
@@ -46,6 +47,15 @@ first_short n w o os h =
     less : (k : ℕ) → leb n (shares_reached w o + k) ≡ leb (n - shares_reached w o) k
     less k = bool_ext _ _ (λ t. le→leb (n - shares_reached w o) k (omega (arith, leb→le n (shares_reached w o + k) t))) (λ t. le→leb n (shares_reached w o + k) (omega (arith, h, leb→le (n - shares_reached w o) k t)))
 
+-- the shares of an order that is reached, and of one that isn't
+pub shares_of_reached : (w o : Order) → true ≡ reaches w o → shares_reached w o ≡ o.shares
+unfolding shares_reached pick
+shares_of_reached w o e = rw (← e)
+
+pub shares_of_unreached : (w o : Order) → false ≡ reaches w o → shares_reached w o ≡ 0
+unfolding shares_reached pick
+shares_of_unreached w o e = rw (← e)
+
 -- the same of the order at the place i
 module _ (n : ℕ) (w : Order) (l : List Order) (i : ℕ) (h : i < length l) where
   abbrev next : Order
@@ -60,6 +70,11 @@ module _ (n : ℕ) (w : Order) (l : List Order) (i : ℕ) (h : i < length l) whe
   read_short e =
       let r = first_short n w next (drop (suc i) l) e in
       rw (drop-cons l i empty_order h, add-one) (ap₂ (λ (b : Bool) (k : ℕ). record { fills = b; read = k }) r.0 (ap (λ (k : ℕ). i + k) r.1 ∙ omega arith))
+
+  -- the same, m being what is missing behind that order
+  pub read_next : (m : ℕ) → shares_reached w next < n → m ≡ n - shares_reached w next → read_on n i w (drop i l) ≡ read_on m (i + 1) w (drop (i + 1) l)
+  read_next m e is =
+      read_short e ∙ ap (λ (k : ℕ). read_on k (i + 1) w (drop (i + 1) l)) (sym is)
 
 pub read_start : (w : Order) (l : List Order) → read_on w.shares 0 w (drop 0 l) ≡ front_read w l
 unfolding front_read

@@ -1,5 +1,5 @@
 -- Laws of an id's rank in a book, by which a binary search finds orders and places. Assumes nothing.
-use Prim.Native.Nat.{ℕ, zero, suc, ◌+◌, ◌≤◌, ◌<◌, zero-le}
+use Prim.Native.Nat.{ℕ, zero, suc, ◌+◌, ◌-◌, ◌/◌, ◌≤◌, ◌<◌, zero-le}
 use native.Mathlib.Nat.{le_of_suc-le-suc, not-suc-le-zero}
 use native.Mathlib.Omega.{arith}
 use mathlib.Core.Path.{◌≡◌, refl, sym, ap, ◌∙◌, subst}
@@ -7,7 +7,8 @@ use mathlib.Core.Bool.{Bool, true, false, not}
 use mathlib.Core.Option.{none, some}
 use mathlib.Core.List.{List, [], ◌∷◌}
 use lib.Dec.{T, ltb, lt→ltb, ltb→lt, not_T}
-use lib.ListN.{length, get_or}
+use lib.ListN.{length, get_or, take, drop, length-drop}
+use lib.Seq.{get_or-take, get_or-drop, length-take-le}
 use Rattle.numbers.specs.Tests.{pick}
 use Rattle.numbers.proofs.TestLaws.{by_test, pick_yes, pick_no, ne→T}
 use Rattle.book.specs.declared.Order.{Order}
@@ -15,13 +16,6 @@ use Rattle.book.specs.rules.Orders.{find, insert}
 use Rattle.book.specs.rules.Words.{empty_order}
 use Rattle.std.specs.Prelude.{Result, Ok, Err, IfOk, IfErr}
 use Rattle.std.specs.Result.{result_ok}
-use Rattle.std.specs.List.Sorted.{IsSearchInRange, IsBinarySearchResult, IsNonDecreasingBy}
-use Rattle.std.specs.Ordering.{nat_cmp, ordering_index}
-use Rattle.std.specs.declared.cmp.Ordering.{Ordering}
-use Rattle.std.specs.declared.cmp.Ordering.TheVariants.{Less, Greater}
-use Rattle.std.proofs.lemmas.Cmp.{ranked}
-use Rattle.std.proofs.lemmas.List.Sorted.{IsNonDecreasingBy-from_default}
-use Rattle.std.proofs.lemmas.Bool.Decides.{nat_tests}
 use Rattle.book.specs.steps.Positions.{insert_at, rank_of, IsIdAt, IsGapFor, Found}
 use Rattle.numbers.proofs.TabulateLaws.{by_order}
 use Rattle.book.proofs.definitions.RisingLaws.{Rises}
@@ -43,6 +37,10 @@ module _ (l : List Order) (id m : ℕ) (r : Rises 0 l) (h : m < length l) where
   pub none_above : id_in l m ≤ id → (j : ℕ) → j < m + 1 → id_in l j ≤ id
   none_above t j a =
       by_order j m (λ b. omega (arith, ids_rise_lem 0 l j m r b h)) (λ b. let e : m ≡ j = omega arith in subst (λ (x : ℕ). id_in l x ≤ id) e t)
+
+  pub all_above : id < id_in l m → (j : ℕ) → m ≤ j → j < length l → id < id_in l j
+  all_above t j a c =
+      by_order m j (λ b. omega (arith, ids_rise_lem 0 l m j r b c)) (λ b. let e : m ≡ j = omega arith in subst (λ (x : ℕ). id < id_in l x) e t)
 
 -- the rank of an id
 
@@ -75,30 +73,76 @@ find_none id [] h = refl
 find_none id (o ∷ os) h =
     pick_no _ _ _ (ne→T id o.id (λ e. h 0 (omega arith) (sym e))) ∙ find_none id os (λ j l. h (suc j) (omega arith))
 
--- a binary search by id among the words of the places ends at the order with the id, or at the gap for it
-module _ (l : List Order) (r : Rises 0 l) (id : ℕ) (places : List (List ℕ)) (size : length places ≡ length l) (is : (j : ℕ) → j < length l → get_or (get_or places j []) 0 0 ≡ id_in l j) where
-  abbrev answer : List ℕ → Ordering
-  answer place = nat_cmp (get_or place 0 0) id
+-- where the ids before position i are below id, and those from it on above, i is the gap
+pub gap_for : (l : List Order) (id i : ℕ) → i ≤ length l → ((j : ℕ) → j < i → id_in l j < id) → ((j : ℕ) → i ≤ j → j < length l → id < id_in l j) → IsGapFor id l i
+gap_for l id i h low high =
+    (sym (rank_is id l i h (λ j b. omega (arith, low j b)) (λ b. high i (omega arith) b)), find_none id l (λ j b e. by_order j i (λ c. omega (arith, low j c)) (λ c. omega (arith, high j c b))))
 
-  answers_rise : IsNonDecreasingBy (λ place. ordering_index (answer place)) places
-  answers_rise =
-      IsNonDecreasingBy-from_default (λ place. ordering_index (answer place)) places [] (λ i j le h.
-      let ids : get_or (get_or places i []) 0 0 ≤ get_or (get_or places j []) 0 0 = by_order i j (λ b. omega (arith, is i (omega arith), is j (omega arith), ids_rise_lem 0 l i j r b (omega arith))) (λ b. subst (λ (x : ℕ). get_or (get_or places i []) 0 0 ≤ get_or (get_or places x []) 0 0) {x = i} (omega arith) (omega arith)) in
-      grind (arith, nat_tests))
+pub gap_of_empty : (l : List Order) (id : ℕ) → length l ≡ 0 → IsGapFor id l 0
+gap_of_empty l id e = gap_for l id 0 zero-le (λ j h. absurd (not-suc-le-zero h)) (λ j h b. absurd (omega (arith, e, b)))
 
-  less : (j : ℕ) → j < length l → answer (get_or places j []) ≡ Less → id_in l j < id
-  less j h e = subst (λ (x : ℕ). x < id) (is j h) (ranked _ id _ (sym e))
+-- where a search by id stands: before counts the orders in front of the places that are left to look at; every id behind these is above id, and the
+-- first of them isn't above it, unless before is 0
+pub record Searched (l : List Order) (id before : ℕ) (places : List (List ℕ)) : Type 0 where
+  pub inside : before + length places ≤ length l
+  pub left : 0 < length places
+  pub ids : (j : ℕ) → j < length places → get_or (get_or places j []) 0 0 ≡ id_in l (before + j)
+  pub lower : 0 < before → id_in l before ≤ id
+  pub upper : (j : ℕ) → before + length places ≤ j → j < length l → id < id_in l j
 
-  greater : (j : ℕ) → j < length l → answer (get_or places j []) ≡ Greater → id < id_in l j
-  greater j h e = subst (λ (x : ℕ). id < x) (is j h) (ranked _ id _ (sym e))
+pub search_start : (l : List Order) (id : ℕ) (places : List (List ℕ)) → 0 < length places → length places ≡ length l → ((j : ℕ) → j < length l → get_or (get_or places j []) 0 0 ≡ id_in l j) → Searched l id 0 places
+search_start l id places left size is =
+    record { inside = omega (arith, size); left = left; ids = λ j h. is j (omega (arith, size)) ∙ ap (id_in l) (omega arith); lower = λ h. absurd (omega arith); upper = λ j h b. absurd (omega (arith, size)) }
 
-  pub searched : (end : Result ℕ ℕ) → IsSearchInRange end (length places) → IsBinarySearchResult answer places end → record { found : IfOk end (IsIdAt id l); absent : IfErr end (IsGapFor id l) }
-  searched (Ok i) h equal = record { found = (omega arith, sym (is i (omega arith)) ∙ ranked _ id _ (sym (equal []))); absent = tt }
-  searched (Err i) h parted =
-      let split = parted answers_rise in
-      let low : (j : ℕ) → j < i → id_in l j < id = λ j b. less j (omega arith) (split.0 j [] (omega arith) b) in
-      let high : (j : ℕ) → i ≤ j → j < length l → id < id_in l j = λ j b c. greater j c (split.1 j [] b (omega arith)) in
-      record { found = tt; absent = (sym (rank_is id l i (omega arith) (λ j b. omega (arith, low j b)) (λ b. high i (omega arith) b)), find_none id l (λ j b e. by_order j i (λ c. omega (arith, low j c)) (λ c. omega (arith, high j c b)))) }
+module _ {l : List Order} {id before : ℕ} {places : List (List ℕ)} (r : Rises 0 l) (s : Searched l id before places) where
+  abbrev half : ℕ
+  half = length places / 2
+
+  -- it goes on from the middle place on
+  pub search_upper : 1 < length places → get_or (get_or places half []) 0 0 ≤ id → Searched l id (before + half) (take (length places - half) (drop half places))
+  search_upper n h =
+      let size : length (take (length places - half) (drop half places)) ≡ length places - half = length-take-le (length places - half) (drop half places) (omega (arith, length-drop half places)) in
+      record {
+        inside = omega (arith, size, s.inside);
+        left = omega (arith, size, n);
+        ids = λ j b. ap (λ (place : List ℕ). get_or place 0 0) (get_or-take (length places - half) (drop half places) j [] (omega (arith, size, b)) ∙ get_or-drop half places j []) ∙ (s.ids (half + j) (omega (arith, size, b)) ∙ ap (id_in l) (omega arith));
+        lower = λ k. omega (arith, h, s.ids half (omega (arith, n)));
+        upper = λ j k b. s.upper j (omega (arith, size, k)) b;
+      }
+
+  -- or in as many places from the first on
+  pub search_lower : 1 < length places → id < get_or (get_or places half []) 0 0 → Searched l id before (take (length places - half) places)
+  search_lower n h =
+      let size : length (take (length places - half) places) ≡ length places - half = length-take-le (length places - half) places (omega arith) in
+      let middle : id < id_in l (before + half) = omega (arith, h, s.ids half (omega (arith, n))) in
+      record {
+        inside = omega (arith, size, s.inside);
+        left = omega (arith, size, n);
+        ids = λ j b. ap (λ (place : List ℕ). get_or place 0 0) (get_or-take (length places - half) places j [] (omega (arith, size, b))) ∙ s.ids j (omega (arith, size, b));
+        lower = s.lower;
+        upper = λ j k b. all_above l id (before + half) r (omega (arith, n, s.inside)) middle j (omega (arith, size, k)) b;
+      }
+
+  -- one place is left
+  module _ (one : length places ≤ 1) where
+    abbrev last : ℕ
+    last = get_or (get_or places 0 []) 0 0
+
+    last_id : last ≡ id_in l before
+    last_id = s.ids 0 s.left ∙ ap (id_in l) (omega arith)
+
+    pub search_equal : last ≡ id → IsIdAt id l before
+    search_equal h = (omega (arith, s.left, s.inside), sym last_id ∙ h)
+
+    pub search_less : last < id → IsGapFor id l (before + 1)
+    search_less h =
+        let below : id_in l before < id = omega (arith, h, last_id) in
+        gap_for l id (before + 1) (omega (arith, s.left, s.inside)) (λ j b. by_order j before (λ c. omega (arith, below, ids_rise_lem 0 l j before r c (omega (arith, s.left, s.inside)))) (λ c. subst (λ (x : ℕ). id_in l x < id) {x = before} (omega arith) below)) (λ j b c. s.upper j (omega (arith, one, b)) c)
+
+    pub search_greater : id < last → IsGapFor id l before
+    search_greater h =
+        let above : id < id_in l before = omega (arith, h, last_id) in
+        gap_for l id before (omega (arith, s.left, s.inside)) (λ j b. absurd (omega (arith, above, s.lower (omega (arith, b))))) (all_above l id before r (omega (arith, s.left, s.inside)) above)
 
 pub found_id : (l : List Order) → Rises 0 l → (id : ℕ) (end : Result ℕ ℕ) → IfOk end (IsIdAt id l) → IfErr end (IsGapFor id l) → Found l (result_ok end) (find id l)
 found_id l r id (Ok i) at gap =
